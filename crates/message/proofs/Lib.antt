@@ -1,7 +1,4 @@
 pub mod Opened
-pub mod Codec
 pub mod Walks
-pub mod Round
+pub mod Heads
 pub mod Laid
-pub mod Copying
-pub mod Laws

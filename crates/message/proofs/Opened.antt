@@ -9,6 +9,7 @@ use lib.Seq.{length-take-le}
 use lib.Dec.{eqb}
 use Rattle.std.proofs.shelf.Lists.{take-all}
 use Rattle.std.proofs.shelf.Tests.{ne-eqb}
+use Rattle.message.specs.declared.fault.OptionFault.{OptionFault}
 use Rattle.message.specs.Options.{ReadOption, kindOf, extendedSize, extended, Step, fault, closed, item, opened, step}
 use Rattle.message.specs.Reading.{fieldOf, readOption}
 use Rattle.std.proofs.shelf.Ways.{tells}
@@ -53,3 +54,38 @@ field-number (Path f) = refl
 field-number (Proxy f) = refl
 field-number (Ignored f) = refl
 field-number (Unknown f) = refl
+
+same-item : (o p : ReadOption) (a b : ℕ) → item o a ≡ item p b → o ≡ p
+same-item o p a b e = cc
+
+-- what an option that was read is
+pub record Came (at before delta len : ℕ) (body : List ℕ) (o : ReadOption) (after : ℕ) : Type 0 where
+  pub sound : Sound before delta len (o .number) (extendedSize delta + extendedSize len) (extended len (drop (extendedSize delta) body)) body
+  pub shown : o ≡ record { kind = kindOf before (o .number) (extended len (drop (extendedSize delta) body)); number = o .number; place = at + 1 + (extendedSize delta + extendedSize len); value = take (extended len (drop (extendedSize delta) body)) (drop (extendedSize delta + extendedSize len) body) }
+  pub ends : after ≡ at + 1 + (extendedSize delta + extendedSize len) + extended len (drop (extendedSize delta) body)
+
+opened-sound : (at before delta len : ℕ) (body : List ℕ) (o : ReadOption) (after : ℕ) → opened at before delta len body ≡ item o after → Sound before delta len (o .number) (extendedSize delta + extendedSize len) (extended len (drop (extendedSize delta) body)) body
+opened-sound at before delta len body o after e = record {
+  delta-open = grind (arith, tells);
+  len-open = grind (arith, tells);
+  head-is = refl;
+  number-is = grind (arith, tells);
+  size-is = refl;
+  low = grind (arith, tells);
+  whole = grind (arith, tells);
+}
+
+pub opened-came : (at before delta len : ℕ) (body : List ℕ) (o : ReadOption) (after : ℕ) → opened at before delta len body ≡ item o after → Came at before delta len body o after
+opened-came at before delta len body o after e =
+    let s = opened-sound at before delta len body o after e in
+    record {
+      sound = s;
+      shown = same-item o _ after _ (sym e ∙ opened-item at before delta len (o .number) _ _ body s);
+      ends = grind (arith, tells);
+    }
+
+pub never : (o : ReadOption) (after : ℕ) → closed ≡ item o after → ⊥
+never o after e = let z : _≡_ {A = ℕ} 0 1 = cc in omega arith
+
+pub never-fault : (f : OptionFault) (o : ReadOption) (after : ℕ) → fault f ≡ item o after → ⊥
+never-fault f o after e = let z : _≡_ {A = ℕ} 0 1 = cc in omega arith

@@ -20,7 +20,7 @@ use Rattle.message.specs.declared.fault.MessageFault.{MessageFault}
 use Rattle.message.specs.declared.fault.MessageFault.the-variants.{InOption}
 use Rattle.message.specs.declared.reader.Reader.{Reader}
 use Rattle.message.specs.Reading.{nextAnswer, stepOf, optionsOf, movedBy, payloadAfter}
-use Rattle.message.proofs.Codec.{opened-came, Came, never, never-fault}
+use Rattle.message.proofs.Opened.{opened-came, Came, never, never-fault}
 
 -- an option takes a byte at least, and ends within the datagram
 pub step-onward : (at before : ℕ) (rest : List ℕ) (o : ReadOption) (after : ℕ) → step at before rest ≡ item o after → (at < after) × (after ≤ at + length rest)
@@ -50,6 +50,31 @@ walk-enough (suc k) (suc m) at before d h l =
 -- what one step does to a walk with the whole budget
 pub walk-step : (d : List ℕ) (at before : ℕ) → optionsFrom d at before ≡ onward at (λ o after. walk (length d) d after (o .number)) (step at before (drop at d))
 walk-step d at before = rw add-one
+
+-- a walk as its steps
+pub data Walk (d : List ℕ) : ℕ → ℕ → OptionList → Type 0 where
+  stop : {at before : ℕ} → step at before (drop at d) ≡ closed → Walk d at before (ended [] at)
+  fail : {at before : ℕ} {f : OptionFault} → step at before (drop at d) ≡ fault f → Walk d at before (broken f)
+  draw : {at before after end : ℕ} {o : ReadOption} {os : List ReadOption} → step at before (drop at d) ≡ item o after → Walk d after (o .number) (ended os end) → Walk d at before (ended (o ∷ os) end)
+  pass : {at before after : ℕ} {o : ReadOption} {f : OptionFault} → step at before (drop at d) ≡ item o after → Walk d after (o .number) (broken f) → Walk d at before (broken f)
+
+draws : (d : List ℕ) (at before after : ℕ) (o : ReadOption) (l : OptionList) → step at before (drop at d) ≡ item o after → Walk d after (o .number) l → Walk d at before (more o l)
+draws d at before after o (broken f) e w = pass e w
+draws d at before after o (ended os end) e w = draw e w
+
+steps : (k at before : ℕ) (d : List ℕ) → ((at′ before′ : ℕ) → length d - at′ < k → Walk d at′ before′ (walk k d at′ before′)) → length d - at < suc k → (s : Step) → step at before (drop at d) ≡ s → Walk d at before (onward at (λ o after. walk k d after (o .number)) s)
+steps k at before d ih h (fault f) e = fail e
+steps k at before d ih h closed e = stop e
+steps k at before d ih h (item o after) e =
+    let p = step-onward at before (drop at d) o after e in
+    draws d at before after o (walk k d after (o .number)) e (ih after (o .number) (omega (arith, p .0, p .1, length-drop at d)))
+
+walks : (k at before : ℕ) (d : List ℕ) → length d - at < k → Walk d at before (walk k d at before)
+walks zero at before d h = absurd (omega arith)
+walks (suc k) at before d h = steps k at before d (λ at′ before′ h′. walks k at′ before′ d h′) h (step at before (drop at d)) refl
+
+pub walked : (d : List ℕ) (at before : ℕ) (l : OptionList) → optionsFrom d at before ≡ l → Walk d at before l
+walked d at before l e = subst (Walk d at before) e (walks (length d + 1) at before d (omega arith))
 
 -- what a call of `next` says of the options that are left, by its answer: the reader r became q
 pub record Drew (r q : Reader) (o : ReadOption) : Type 0 where

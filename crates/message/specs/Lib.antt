@@ -5,5 +5,3 @@ pub mod Encoding
 pub mod Message
 pub mod Reading
 pub mod Writing
-pub mod Theorems
-pub mod Transcribing

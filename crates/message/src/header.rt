@@ -14,7 +14,7 @@ pub enum MessageType {
 
 impl MessageType {
     // The two bits that stand for the type in a header.
-    pub fn bits(self) -> u8
+    pub(crate) fn bits(self) -> u8
         ensures { λ r. ⌜ r ≡ typeBits self ⌝ }
     {
         match self {
@@ -26,7 +26,7 @@ impl MessageType {
     }
 
     // The type that the two lowest bits of `bits` stand for.
-    pub fn from_bits(bits: u8) -> MessageType
+    pub(crate) fn from_bits(bits: u8) -> MessageType
         ensures { λ r. ⌜ r ≡ typeOf (bits % 4) ⌝ }
     {
         match bits % 4 {
@@ -59,7 +59,7 @@ impl Code {
 }
 
 // What comes before the options; the token is a part of the datagram.
-#[derive(Clone, Copy, Debug)]
+#[derive(Clone, Copy)]
 pub struct Header<'a> {
     pub kind: MessageType,
     pub code: Code,

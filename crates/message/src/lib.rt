@@ -3,5 +3,4 @@ pub mod fault;
 pub mod header;
 pub mod option;
 pub mod reader;
-pub mod transcribe;
 pub mod writer;

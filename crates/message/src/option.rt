@@ -3,7 +3,7 @@ ghost use mathlib.Core.Path.{_≡_};
 ghost use Rattle.message.specs.Reading.{fieldOf};
 
 // An option's number, the place in the datagram where its value begins, and the value, a part of the datagram.
-#[derive(Clone, Copy, Debug)]
+#[derive(Clone, Copy)]
 pub struct OptionField<'a> {
     pub number: u16,
     pub place: usize,
@@ -11,7 +11,7 @@ pub struct OptionField<'a> {
 }
 
 // An option by its kind. Ignored options may be skipped; a request with an Unknown one is not understood.
-#[derive(Clone, Copy, Debug)]
+#[derive(Clone, Copy)]
 pub enum MessageOption<'a> {
     Host(OptionField<'a>),
     Port(OptionField<'a>),

@@ -133,7 +133,7 @@ fn behind(datagram: &[u8], at: usize) -> &[u8]
 }
 
 // A datagram, the place reached in it and the number of the option before that place.
-#[derive(Clone, Copy, Debug)]
+#[derive(Clone, Copy)]
 pub struct Reader<'a> {
     datagram: &'a [u8],
     at: usize,

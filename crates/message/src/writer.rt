@@ -42,7 +42,7 @@ impl WriteError {
 }
 
 // How far a message is written: nothing, the header of an Empty message, a header and options, or a payload too.
-#[derive(Clone, Copy, PartialEq, Eq, Debug)]
+#[derive(Clone, Copy)]
 enum Stage {
     Unstarted,
     Empty,

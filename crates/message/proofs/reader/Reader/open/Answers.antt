@@ -4,7 +4,7 @@ use native.Mathlib.Omega.{arith}
 use lib.ListN.{length, getD, take, drop}
 use borrow.Author.Needs.{needs}
 use Rattle.message.specs.Header.{opens, typeOf}
-use Rattle.message.proofs.Round.{opening-cut, framed-opens}
+use Rattle.message.proofs.Heads.{opening-cut, framed-opens}
 use Rattle.message.proofs.reader.Reader.open.Needs as need
 
 pub returns : need.returns

@@ -1,0 +1,4 @@
+pub mod Codec
+pub mod Round
+pub mod Laws
+pub mod Copying
