@@ -75,8 +75,8 @@ impl MessageFault {
 pub impl From<OptionFault> for MessageFault as MessageFaultFromOption {
     ghost converts = { λ f r. r ≡ InOption f };
 
-    fn from(fault: OptionFault) -> MessageFault {
-        MessageFault::InOption(fault)
+    fn from(inner: OptionFault) -> MessageFault {
+        MessageFault::InOption(inner)
     }
 }
 
@@ -105,7 +105,7 @@ impl Rejection {
 pub impl From<MessageFault> for Rejection as RejectionFromFault {
     ghost converts = { λ f r. r ≡ Fault f };
 
-    fn from(fault: MessageFault) -> Rejection {
-        Rejection::Fault(fault)
+    fn from(inner: MessageFault) -> Rejection {
+        Rejection::Fault(inner)
     }
 }

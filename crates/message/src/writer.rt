@@ -132,7 +132,8 @@ impl<'b> Writer<'b> {
     pub fn len(&self) -> usize
         ensures { λ r. ⌜ r ≡ now (self .entry) .len ⌝ }
     {
-        self.len
+        let Writer { len, .. } = self;
+        *len
     }
 
     // The header and the token at the front of the buffer.
