@@ -1,0 +1,9 @@
+pub mod Fields
+pub mod Options
+pub mod Written
+pub mod Datagram
+pub mod Line
+pub mod Lines
+pub mod Counts
+pub mod Stream
+pub mod Laws
