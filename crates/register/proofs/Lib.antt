@@ -1,0 +1,11 @@
+pub mod Rows
+pub mod Least
+pub mod Conds
+pub mod Tables
+pub mod Stores
+pub mod Counters
+pub mod Boards
+pub mod Caches
+pub mod Offsets
+pub mod Switches
+pub mod Errors

@@ -1,0 +1,11 @@
+pub mod Values
+pub mod Meaning
+pub mod Places
+pub mod Decimals
+pub mod Store
+pub mod Counter
+pub mod Board
+pub mod Cached
+pub mod Offset
+pub mod Switched
+pub mod Model
