@@ -18,8 +18,8 @@ use crate::fields;
 use crate::options;
 use message::fault::Rejection;
 use message::reader::Reader;
-use transcribe::transcribe;
 use std::alloc::AllocError;
+use transcribe::transcribe;
 
 // The most bytes that a message may have.
 const MAX_DATAGRAM: usize = 480;

@@ -110,31 +110,3 @@ impl Stream {
         self.tally.push_totals(out)
     }
 }
-
-#[cfg(test)]
-mod tests {
-    use super::*;
-    use std::test::*;
-
-    #[test]
-    fn joins_the_pieces_of_a_line(rt: LibcRuntime) -> Result<(), Fail> {
-        let mut stream = Stream::new(rt.alloc());
-        let mut out = Vec::new(rt.alloc());
-        for piece in ["4001", "1234\n\n40", "00", "123401"] {
-            stream.feed(rt.alloc(), piece.as_bytes(), &mut out)?;
-        }
-        check_eq(out.as_slice(), b"message CON 0.01 4660 - - -\nsilent 10\n")?;
-        out.clear();
-        stream.finish(rt.alloc(), &mut out)?;
-        check_eq(out.as_slice(), b"fault 2 1\nmessages 1 faults 1 others 1\n")
-    }
-
-    #[test]
-    fn counts_no_line_after_the_last_line_feed(rt: LibcRuntime) -> Result<(), Fail> {
-        let mut stream = Stream::new(rt.alloc());
-        let mut out = Vec::new(rt.alloc());
-        stream.feed(rt.alloc(), b"x\n", &mut out)?;
-        stream.finish(rt.alloc(), &mut out)?;
-        check_eq(out.as_slice(), b"not hex\nmessages 0 faults 0 others 1\n")
-    }
-}

@@ -66,14 +66,37 @@ mod tests {
         let mut buffer = [0u8; 16];
         let mut writer = Writer::new(&mut buffer);
         check_eq(writer.option(11, b"b"), Err(WriteError::OutOfOrder))?;
-        check_eq(writer.start(MessageType::Ack, Code(0), 1, &[0; 9]), Err(WriteError::TokenTooLong))?;
-        check_eq(writer.start(MessageType::Ack, Code(0), 1, &[1]), Err(WriteError::EmptyMessage))?;
+        check_eq(
+            writer.start(MessageType::Ack, Code(0), 1, &[0; 9]),
+            Err(WriteError::TokenTooLong),
+        )?;
+        check_eq(
+            writer.start(MessageType::Ack, Code(0), 1, &[1]),
+            Err(WriteError::EmptyMessage),
+        )?;
         writer.start(MessageType::Ack, Code(69), 0x1234, &[0xA1])?;
         writer.option(14, &[0x3B])?;
         check_eq(writer.option(11, b"b"), Err(WriteError::OutOfOrder))?;
         check_eq(writer.payload(b"too long a body"), Err(WriteError::NoRoom))?;
         writer.payload(b"anna")?;
         check_eq(writer.len(), 13)?;
-        check_eq(&buffer[0..13], &[0x61, 0x45, 0x12, 0x34, 0xA1, 0xD1, 0x01, 0x3B, 0xFF, 0x61, 0x6E, 0x6E, 0x61])
+        check_eq(
+            &buffer[0..13],
+            &[
+                0x61,
+                0x45,
+                0x12,
+                0x34,
+                0xA1,
+                0xD1,
+                0x01,
+                0x3B,
+                0xFF,
+                0x61,
+                0x6E,
+                0x6E,
+                0x61,
+            ],
+        )
     }
 }
