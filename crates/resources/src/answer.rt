@@ -11,7 +11,7 @@ use register::values::ReadAnswer;
 use register::values::ReadCode;
 
 // A code without a body.
-pub fn code_alone(code: ChangeCode) -> ChangeAnswer
+pub(crate) fn code_alone(code: ChangeCode) -> ChangeAnswer
     ensures { λ r. ⌜ saidOf r ≡ bare code ⌝ }
 {
     ChangeAnswer {
@@ -22,7 +22,7 @@ pub fn code_alone(code: ChangeCode) -> ChangeAnswer
 }
 
 // 2.05 with a body, and the seconds for which it stays true.
-pub fn content(body: Bytes<256>, max_age: u32) -> ReadAnswer
+pub(crate) fn content(body: Bytes<256>, max_age: u32) -> ReadAnswer
     ensures { λ r. ⌜ readOf r ≡ contentRead (bytesOf body) «max_age» ⌝ }
 {
     ReadAnswer {
@@ -33,7 +33,7 @@ pub fn content(body: Bytes<256>, max_age: u32) -> ReadAnswer
 }
 
 // 4.04, which stays true for no time.
-pub fn not_found() -> ReadAnswer
+pub(crate) fn not_found() -> ReadAnswer
     ensures { λ r. ⌜ readOf r ≡ nothing ⌝ }
 {
     ReadAnswer {

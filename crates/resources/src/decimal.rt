@@ -19,7 +19,7 @@ fn put_digits(out: &mut [u8], n: u32) -> usize
 }
 
 // The digits of `n`, with no leading zero.
-pub fn digits(n: u32) -> Bytes<10>
+pub(crate) fn digits(n: u32) -> Bytes<10>
     ensures { λ r. ⌜ bytesOf r ≡ decimal n ⌝ }
 {
     let mut buffer = [0; 10];
