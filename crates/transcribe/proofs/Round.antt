@@ -75,29 +75,32 @@ writable-rising : (before : ℕ) (os : List Field) → Writable before os → Ri
 writable-rising before [] w = tt
 writable-rising before (o ∷ os) w = (w .0, w .1, writable-rising (o .number) os (w .3))
 
--- what is written is read again
-pub parse-encode : (m : Message) → WellFormed m → parse (encode m) ≡ message m
-parse-encode m g =
+-- what is written is read again; the Message ID plays no part
+pub written-read : (m : Message) → length (m .head .token) ≤ 8 → (m .head .code ≡ 0 → length (encode m) ≡ 4) → Rising 0 (m .options) → length (encode m) ≤ 480 → parse (encode m) ≡ message m
+written-read m token empty rising fits =
     let h = m .head in
     let tail = optionsBytes 0 (m .options) ++ payloadBytes (m .payload) in
     let n = length (h .token) in
-    let long : ltb 480 (length (encode m)) ≡ false = le-ltb 480 _ (g .fits) in
+    let long : ltb 480 (length (encode m)) ≡ false = le-ltb 480 _ fits in
     let size : length (encode m) ≡ 4 + n + length tail = simp length-append (omega arith) in
-    let none : h .code ≡ 0 → n + length (h .token ++ tail) ≡ 0 = λ e. omega (arith, g .empty e, length-append (h .token) tail) in
+    let none : h .code ≡ 0 → n + length (h .token ++ tail) ≡ 0 = λ e. omega (arith, empty e, length-append (h .token) tail) in
     let id : h .id / 256 * 256 + h .id % 256 ≡ h .id = omega arith in
     let o : header (length (encode m)) (encode m) ≡ opens (record { type = h .type; code = h .code; id = h .id / 256 * 256 + h .id % 256; token = take n (h .token ++ tail) }) (4 + n) =
-    framed-written (length (encode m)) (h .code) (h .id / 256) (h .id % 256) n (h .type) (h .token ++ tail) (g .token) (simp length-append (omega arith)) none in
+    framed-written (length (encode m)) (h .code) (h .id / 256) (h .id % 256) n (h .type) (h .token ++ tail) token (simp length-append (omega arith)) none in
     let o′ : header (length (encode m)) (encode m) ≡ opens h (4 + n) = o ∙ (λ i. opens (record { type = h .type; code = h .code; id = id i; token = take-at (h .token) tail n refl i }) (4 + n)) in
     let start : drop (4 + n) (encode m) ≡ tail = drop-at (headBytes h) tail (4 + n) (omega arith) in
     let many : length (m .options) < length (encode m) + 1 = omega (arith, size, length-append (optionsBytes 0 (m .options)) (payloadBytes (m .payload)), options-long 0 (m .options)) in
     let end = 4 + n + length (optionsBytes 0 (m .options)) in
-    let writable = rising-writable 0 (m .options) (g .rising) (omega (arith, size, g .fits, length-append (optionsBytes 0 (m .options)) (payloadBytes (m .payload)))) in
+    let writable = rising-writable 0 (m .options) rising (omega (arith, size, fits, length-append (optionsBytes 0 (m .options)) (payloadBytes (m .payload)))) in
     let w = walk-written (m .options) (length (encode m) + 1) (4 + n) 0 (encode m) (payloadBytes (m .payload)) writable (payload-shut (m .payload)) start many in
     let rest : drop end (encode m) ≡ payloadBytes (m .payload) = sym (drop-drop (length (optionsBytes 0 (m .options))) (4 + n) (encode m)) ∙ ap (drop (length (optionsBytes 0 (m .options)))) start ∙ drop-at (optionsBytes 0 (m .options)) (payloadBytes (m .payload)) _ refl in
     ap (λ b. inside (encode m) (cond b (rejected TooLong) (header (length (encode m)) (encode m)))) long
     ∙ ap (inside (encode m)) o′
     ∙ ap (closing (encode m) h) w
     ∙ (λ i. message (record { head = h; options = fields-kept (4 + n) 0 (m .options) i; payload = (ap payloadOf rest ∙ payload-kept (m .payload)) i }))
+
+pub parse-encode : (m : Message) → WellFormed m → parse (encode m) ≡ message m
+parse-encode m g = written-read m (g .token) (g .empty) (g .rising) (g .fits)
 
 -- what a header that was read is
 pub record Framed (first code high low : ℕ) (rest : List ℕ) (h : Head) (at : ℕ) : Type 0 where
