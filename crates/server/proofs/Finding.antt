@@ -95,24 +95,24 @@ place-least (x ∷ xs) h =
     let f = first-fits (λ y. eqb y (leastFrom x xs)) (x ∷ xs) (k .0) (k .1) (eq-eqb _ _ (k .2)) in
     (f .0, eqb-true _ _ (f .1))
 
--- one record that is lapsed or empty has the least below its lapse
-lapsed-least : (s : Key) (ss : List Key) (t : ℕ) → full (s ∷ ss) t ≡ false → leastFrom (s .expiry) (expiries ss) ≤ t
-lapsed-least s [] t e = ⊎-elim (λ a. ltb-false t (s .expiry) a) (λ b. absurd (true≢false b)) (and-cases (ltb t (s .expiry)) true e)
-lapsed-least s (u ∷ us) t e =
-    ⊎-elim (λ a. let h = ltb-false t (s .expiry) a in omega arith) (λ b. let h = lapsed-least u us t b in omega arith) (and-cases (ltb t (s .expiry)) (full (u ∷ us) t) e)
+-- one record that is expired or empty has the least below its expiry
+expired-least : (s : Key) (ss : List Key) (t : ℕ) → full (s ∷ ss) t ≡ false → leastFrom (s .expiry) (expiries ss) ≤ t
+expired-least s [] t e = ⊎-elim (λ a. ltb-false t (s .expiry) a) (λ b. absurd (true≢false b)) (and-cases (ltb t (s .expiry)) true e)
+expired-least s (u ∷ us) t e =
+    ⊎-elim (λ a. let h = ltb-false t (s .expiry) a in omega arith) (λ b. let h = expired-least u us t b in omega arith) (and-cases (ltb t (s .expiry)) (full (u ∷ us) t) e)
 
-getD-lapses : (ss : List Key) (i : ℕ) → getD (expiries ss) i 0 ≡ getD ss i noKey .expiry
-getD-lapses [] i = refl
-getD-lapses (s ∷ ss) zero = refl
-getD-lapses (s ∷ ss) (suc i) = getD-lapses ss i
+getD-expiries : (ss : List Key) (i : ℕ) → getD (expiries ss) i 0 ≡ getD ss i noKey .expiry
+getD-expiries [] i = refl
+getD-expiries (s ∷ ss) zero = refl
+getD-expiries (s ∷ ss) (suc i) = getD-expiries ss i
 
--- where some record is lapsed or empty, the place rule's is
+-- where some record is expired or empty, the place rule's is
 pub place-expired : (ss : List Key) (t : ℕ) → full ss t ≡ false → (placeIn (expiries ss) < length ss) × (getD ss (placeIn (expiries ss)) noKey .expiry ≤ t)
 place-expired [] t e = absurd (true≢false e)
 place-expired (s ∷ ss) t e =
     let k = place-least (expiries (s ∷ ss)) (omega arith) in
     let n = length-map (s ∷ ss) (λ (x : Key). x .expiry) in
-    (omega (arith, k .0, n), omega (arith, sym (getD-lapses (s ∷ ss) (placeIn (expiries (s ∷ ss)))), k .1, lapsed-least s ss t e))
+    (omega (arith, k .0, n), omega (arith, sym (getD-expiries (s ∷ ss) (placeIn (expiries (s ∷ ss)))), k .1, expired-least s ss t e))
 
 -- ## Live records
 

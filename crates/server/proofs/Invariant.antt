@@ -36,7 +36,7 @@ pub record Owner (es : List Arrived) (ns : List FirstReply) (r : Record) : Type 
 abbrev pub Owned : List Arrived → List FirstReply → Record → Type 0
 Owned es ns r = (r .key .expiry ≡ 0) ⊎ Owner es ns r
 
--- the arrival at which a request was done: its record stands until its lapse
+-- the arrival at which a request was done: its record stands until its expiry
 pub record Memory (es : List Arrived) (rs : List Record) (last : ℕ) (n : FirstReply) : Type 0 where
   pub at : Admitted
   pub listed : In (arrived (n .request) at) es
@@ -61,9 +61,9 @@ owned-entry : (es : List Arrived) (ns : List FirstReply) (e : Arrived) (r : Reco
 owned-entry es ns e r (inl h) = inl h
 owned-entry es ns e r (inr o) = inr (record { of = o .of; listed = inr (o .listed); key-is = o .key-is; reply-is = o .reply-is })
 
-owned-noted : (es : List Arrived) (ns : List FirstReply) (n : FirstReply) (r : Record) → Owned es ns r → Owned es (n ∷ ns) r
-owned-noted es ns n r (inl h) = inl h
-owned-noted es ns n r (inr o) = inr (record { of = o .of; listed = o .listed; key-is = o .key-is; reply-is = inr (o .reply-is) })
+owned-more : (es : List Arrived) (ns : List FirstReply) (n : FirstReply) (r : Record) → Owned es ns r → Owned es (n ∷ ns) r
+owned-more es ns n r (inl h) = inl h
+owned-more es ns n r (inr o) = inr (record { of = o .of; listed = o .listed; key-is = o .key-is; reply-is = inr (o .reply-is) })
 
 memory-entry : (es : List Arrived) (rs : List Record) (last : ℕ) (e : Arrived) (n : FirstReply) → Memory es rs last n → Memory (e ∷ es) rs last n
 memory-entry es rs last e n h = record { at = h .at; listed = inr (h .listed); stands = h .stands }
@@ -71,7 +71,7 @@ memory-entry es rs last e n h = record { at = h .at; listed = inr (h .listed); s
 memory-later : (es : List Arrived) (rs : List Record) (last t : ℕ) → last ≤ t → (n : FirstReply) → Memory es rs last n → Memory es rs t n
 memory-later es rs last t k n h = record { at = h .at; listed = h .listed; stands = ⊎-elim (λ x. inl (omega arith)) inr (h .stands) }
 
--- a write to a lapsed record takes no memory away
+-- a write to a expired record takes no memory away
 memory-set : (es : List Arrived) (rs : List Record) (t i : ℕ) (y : Record) → getD rs i noRecord .key .expiry ≤ t → (n : FirstReply) → Memory es rs t n → Memory es (set rs i y) t n
 memory-set es rs t i y h n k = record { at = k .at; listed = k .listed; stands = ⊎-elim inl go (k .stands) }
   where
@@ -82,7 +82,7 @@ memory-set es rs t i y h n k = record { at = k .at; listed = k .listed; stands =
         (set-keeps rs i y noRecord (q .0) (q .1))
 
 module _ (m : Meaning) (ms : Messages) where
-  -- the clock goes on, and the pile is one with the same register
+  -- the clock goes on, and the stack is one with the same register
   later : (v : Server (m .State)) (l : Ledger (m .Register)) (es : List Arrived) (stack : m .State) (t acc : ℕ) (n : Counts) → Inv m ms v l es → v .last ≤ t → m .Sound stack → m .register stack ≡ l .register →
       Inv m ms (record { stack = stack; last = t; accepted = acc; records = v .records; counts = n }) l es
   later v l es stack t acc n h k s e = record {
@@ -229,7 +229,7 @@ module _ (m : Meaning) (law : Laws m) (ms : Messages) (sep : Framing ms) where
           register = law .left (v .stack) (a .change) (a .moment) (h .sound) (apt .1) (fits a (apt .2)) ∙ ap (λ x. m .leaves x (a .change) (a .moment)) (h .register);
           owned = all-set (Owned E (n ∷ l .firsts)) (v .records) i y
               (inr (record { of = arrived r a; listed = inl refl; key-is = refl; reply-is = inl (ap (firstOf r) (k .3)) }))
-              (all-weaker (Owned E (l .firsts)) (Owned E (n ∷ l .firsts)) (owned-noted E (l .firsts) n) (v .records) (s .owned));
+              (all-weaker (Owned E (l .firsts)) (Owned E (n ∷ l .firsts)) (owned-more E (l .firsts) n) (v .records) (s .owned));
           memory = (
             record { at = a; listed = inl refl; stands = inr (y, set-has (v .records) i y (k .1), refl) },
             all-weaker (Memory E (v .records) (a .moment)) (Memory E (set (v .records) i y) (a .moment)) (memory-set E (v .records) (a .moment) i y (k .2)) (l .firsts) (s .memory),
