@@ -103,7 +103,7 @@ kept = each-change-once coap coap-framing counter counter-laws 0 (omega arith) r
 register-is : registerAt counter coap 0 run ≡ 34
 register-is = refl
 
-last-ones : doneRequests coap (of 4 (at 500000 (post 5)) ∷ of 3 (at 248000 (post 99)) ∷ opened) ≡ 4 ∷ 3 ∷ 2 ∷ 1 ∷ []
+last-ones : doneRequests counter coap 0 (of 4 (at 500000 (post 5)) ∷ of 3 (at 248000 (post 99)) ∷ opened) ≡ 4 ∷ 3 ∷ 2 ∷ 1 ∷ []
 last-ones = refl
 
 tally-is : answers (calls (of 0 (at 500001 (get 8)) ∷ of 4 (at 500000 (post 5)) ∷ of 3 (at 248000 (post 99)) ∷ of 1 (at 247999 (post 5)) ∷ filled)) Tally

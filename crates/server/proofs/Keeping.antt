@@ -14,7 +14,7 @@ use Rattle.register.specs.Values.{Bytes, Path, IsMoment, Shown, Read, IsBody}
 use Rattle.register.specs.Meaning.{Meaning, Laws}
 use Rattle.server.specs.Calls.{Counts, Answer, Reply, Silent, Refused, Tallied, Call, Tally}
 use Rattle.server.specs.Messages.{Asked, Settled, Reads, Changes, Seen, Messages, isContent}
-use Rattle.server.specs.Settling.{Admitted, Ending, Repeated, Silenced, Dropped, Done, Event, TurnedAway, Settles, Reading, Changing, Tallying, eventAt, count, counted, ended}
+use Rattle.server.specs.Settling.{Admitted, Ending, Repeated, Silenced, Dropped, Done, Event, TurnedAway, Settles, Reading, Changing, Tallying, count, counted, ended}
 use Rattle.server.specs.Serving.{Server, keys, eventBy, recorded, replyTo, answerChange, answerEvent, nextChange, nextEvent, answer, next, served}
 use Rattle.server.specs.Ledger.{Grouped, calls, eventIn, FirstReply, Ledger, isAnswered, replied, entered, booked, ledger, Arrived, listed, admitted, In, Premises}
 use Rattle.server.specs.Promises.{noting, firstReplies, isDone, does, doneRequests, requests, Distinct, Quiet, seenFrom, Framing, Current, Promises, Each-change-once}
@@ -181,12 +181,12 @@ module _ (m : Meaning) (law : Laws m) (ms : Messages) (sep : Framing ms) where
   quiet-step v h Tallying apt e = refl
 
   -- a call that does no change leaves the register
-  quiet-call : (s : m .State) → m .Sound s → (past : List Call) (c : Call) → does (eventAt ms past c) ≡ false → m .register (served m ms s (c ∷ past) .stack) ≡ m .register (served m ms s past .stack)
+  quiet-call : (s : m .State) → m .Sound s → (past : List Call) (c : Call) → does (eventBy ms (served m ms s past) c) ≡ false → m .register (served m ms s (c ∷ past) .stack) ≡ m .register (served m ms s past .stack)
   quiet-call s h past c e =
       let v = served m ms s past in
-      quiet-step v (sound s h past) (eventBy ms v c) (event-apt ms v c) (subst (λ k. does k ≡ false) (sym (same-event m ms s past c)) e)
+      quiet-step v (sound s h past) (eventBy ms v c) (event-apt ms v c) e
 
-  quiet : (s : m .State) → m .Sound s → (between before : List Grouped) → Quiet ms between before → m .register (served m ms s (calls (between ++ before)) .stack) ≡ m .register (served m ms s (calls before) .stack)
+  quiet : (s : m .State) → m .Sound s → (between before : List Grouped) → Quiet m ms s between before → m .register (served m ms s (calls (between ++ before)) .stack) ≡ m .register (served m ms s (calls before) .stack)
   quiet s h [] before q = refl
   quiet s h (f ∷ fs) before q = quiet-call s h (calls (fs ++ before)) (f .call) (q .0) ∙ quiet s h fs before (q .1)
 
@@ -268,13 +268,14 @@ module _ (m : Meaning) (law : Laws m) (ms : Messages) (sep : Framing ms) where
         (first-step v (L past) (admitted ms past) (f .request) (invariant m law ms sep s ok past before) (eventBy ms v (f .call)) (event-apt ms v (f .call)))
         p
 
-    once : (history : List Grouped) → Premises (admitted ms history) → doneRequests ms history ≡ requests (L history .firsts)
+    once : (history : List Grouped) → Premises (admitted ms history) → doneRequests m ms s history ≡ requests (L history .firsts)
     once [] p = refl
     once (f ∷ past) p =
         let before = premises-before m law ms sep (admitted ms past) (f .request) (eventIn ms past f) p in
         let v = served m ms s (calls past) in
-        ap (λ rs. cond (does (eventIn ms past f)) (f .request ∷ rs) rs) (once past before) ∙
-        subst (λ k. Premises (listed (admitted ms past) (f .request) k) → cond (does k) (f .request ∷ requests (L past .firsts)) (requests (L past .firsts)) ≡ requests (booked m ms (L past) (f .request) k .firsts))
+        let found = eventBy ms v (f .call) in
+        ap (λ rs. cond (does found) (f .request ∷ rs) rs) (once past before) ∙
+        subst (λ k. Premises (listed (admitted ms past) (f .request) k) → cond (does found) (f .request ∷ requests (L past .firsts)) (requests (L past .firsts)) ≡ requests (booked m ms (L past) (f .request) k .firsts))
         (same-event m ms s (calls past) (f .call))
         (once-step v (L past) (admitted ms past) (f .request) (invariant m law ms sep s ok past before) (eventBy ms v (f .call)) (event-apt ms v (f .call)))
         p

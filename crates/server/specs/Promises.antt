@@ -11,7 +11,7 @@ use Rattle.register.specs.Meaning.{Meaning}
 use Rattle.server.specs.Calls.{Counts, Answer, Reply, Silent, Refused, Tallied, Call, Tally}
 use Rattle.server.specs.Messages.{Asked, Settled, Reads, Changes, Seen, Messages, isContent}
 use Rattle.server.specs.Settling.{Admitted, Ending, Repeated, Silenced, Dropped, Done, Event, TurnedAway, Settles, Reading, Changing, Tallying, ended}
-use Rattle.server.specs.Serving.{answer, served}
+use Rattle.server.specs.Serving.{eventBy, answer, served}
 use Rattle.server.specs.Ledger.{Grouped, calls, eventIn, FirstReply, isAnswered, Ledger, ledger, Arrived, admitted, In, Premises}
 
 -- ## At a point of a run, of a server made over a stack in the state s
@@ -42,6 +42,10 @@ abbrev pub firstReplies : (m : Meaning) → Messages → m .State → List Group
 firstReplies m ms s [] = []
 firstReplies m ms s (g ∷ past) = noting (firstReplies m ms s past) (g .request) (eventIn ms past g) (answerAt m ms s past g)
 
+-- what a call comes to as the server finds it, by its records
+abbrev pub foundAt : (m : Meaning) → Messages → m .State → List Grouped → Grouped → Event
+foundAt m ms s before g = eventBy ms (served m ms s (calls before)) (g .call)
+
 -- whether a call does a change
 abbrev pub isDone : Ending → Bool
 isDone Repeated = false
@@ -56,10 +60,10 @@ does (Reading t d p) = false
 does (Changing a e) = isDone e
 does Tallying = false
 
--- the requests whose changes are done, once for each time, latest first
-abbrev pub doneRequests : Messages → List Grouped → List ℕ
-doneRequests ms [] = []
-doneRequests ms (g ∷ past) = cond (does (eventIn ms past g)) (g .request ∷ doneRequests ms past) (doneRequests ms past)
+-- the requests whose changes the server does, once for each time, latest first
+abbrev pub doneRequests : (m : Meaning) → Messages → m .State → List Grouped → List ℕ
+doneRequests m ms s [] = []
+doneRequests m ms s (g ∷ past) = cond (does (foundAt m ms s past g)) (g .request ∷ doneRequests m ms s past) (doneRequests m ms s past)
 
 abbrev pub requests : List FirstReply → List ℕ
 requests ns = map (λ n. n .request) ns
@@ -69,10 +73,10 @@ abbrev pub Distinct : List FirstReply → Type 0
 Distinct [] = Unit {0}
 Distinct (n ∷ ns) = (isAnswered ns (n .request) ≡ false) × Distinct ns
 
--- no call of `between`, made after `before`, does a change
-abbrev pub Quiet : Messages → List Grouped → List Grouped → Type 0
-Quiet ms [] before = Unit {0}
-Quiet ms (g ∷ gs) before = (does (eventIn ms (gs ++ before) g) ≡ false) × Quiet ms gs before
+-- at no call of `between`, made after `before`, the server does a change
+abbrev pub Quiet : (m : Meaning) → Messages → m .State → List Grouped → List Grouped → Type 0
+Quiet m ms s [] before = Unit {0}
+Quiet m ms s (g ∷ gs) before = (does (foundAt m ms s (gs ++ before) g) ≡ false) × Quiet m ms s gs before
 
 -- ## The promises
 
@@ -86,7 +90,7 @@ pub record Current (m : Meaning) (ms : Messages) (s : m .State) (later : List Gr
   -- code and body are what the register shows for the path at that moment
   pub shown : m .shows (registerAt m ms s before) path moment ≡ record { code = Content; body = seen .body }
   -- and it shows the same from then on, before Max-Age seconds are over, as long as no change is done
-  pub lasting : (rest between : List Grouped) → later ≡ rest ++ between → Quiet ms between (g ∷ before) →
+  pub lasting : (rest between : List Grouped) → later ≡ rest ++ between → Quiet m ms s between (g ∷ before) →
       (u : ℕ) → IsMoment u → moment ≤ u → u < moment + 1000 * seen .maxAge →
       m .shows (registerAt m ms s (between ++ (g ∷ before))) path u ≡ record { code = Content; body = seen .body }
 
@@ -96,7 +100,7 @@ pub record Promises (m : Meaning) (ms : Messages) (s : m .State) (history : List
   pub register : registerAt m ms s history ≡ ledgerAt m ms s history .register
   pub firsts : firstReplies m ms s history ≡ ledgerAt m ms s history .firsts
   -- each changing request that got a reply is done once, in the order of first replies
-  pub once : doneRequests ms history ≡ requests (ledgerAt m ms s history .firsts)
+  pub once : doneRequests m ms s history ≡ requests (ledgerAt m ms s history .firsts)
   pub distinct : Distinct (ledgerAt m ms s history .firsts)
   -- each later admitted arrival of it gets the first reply's bytes if confirmable, and silence if not
   pub copies : (later : List Grouped) (g : Grouped) (before : List Grouped) (a : Admitted) (e : Ending) (b : Bytes) → history ≡ later ++ (g ∷ before) →
