@@ -1,15 +1,15 @@
 -- What some datagrams ask for, and how some replies are framed and read. Each comment has the bytes in hexadecimal.
 use mathlib.Core.Path.{_≡_, refl}
 use mathlib.Core.Bool.{true, false}
-use mathlib.Core.List.{List, [], _∷_}
+use mathlib.Core.List.{[], _∷_}
 use Prim.Native.Nat.{ℕ}
 use lib.ListN.{replicate}
-use Rattle.std.specs.declared.option.Option.the-variants.{Some, None}
+use Rattle.std.specs.declared.option.Option.the-variants.{Some}
 use Rattle.message.specs.declared.fault.MessageFault.the-variants.{InOption}
 use Rattle.message.specs.declared.fault.OptionFault.the-variants.{NoPayload}
 use Rattle.message.specs.Options.{unknown}
 use Rattle.register.specs.declared.values.Method.the-variants.{Post}
-use Rattle.register.specs.declared.values.ReadCode.the-variants.{Content, NotFound}
+use Rattle.register.specs.declared.values.ReadCode.the-variants.{Content}
 use Rattle.register.specs.declared.values.ChangeCode.the-variants.{ServiceUnavailable}
 use Rattle.register.specs.Values.{Bytes, nothing}
 use Rattle.server.specs.Calls.{Reply, Silent, Refused}

@@ -15,8 +15,8 @@ use Rattle.register.specs.Values.{Bytes, IsMoment}
 use Rattle.register.specs.Meaning.{Meaning}
 use Rattle.server.specs.Calls.{Call, Arrival, Tally}
 use Rattle.server.specs.Messages.{Asked, Settled, Reads, Changes, Messages}
-use Rattle.server.specs.Settling.{Admitted, Ending, Repeated, Silenced, Dropped, Done, Event, TurnedAway, Settles, Reading, Changing, Tallying, refusal, unless, eventOf, eventWith, remembered, copies, copiesAny, howMany, ending, Progress, eventAfter, doneAfter, accepting, moved, progress, eventAt}
-use Rattle.server.specs.Serving.{Key, Record, Server, keys, matchesAt, liveAt, full, endingBy, eventBy, expiries, keyOf, nextChange, nextEvent, next, served, noKey, noRecord}
+use Rattle.server.specs.Settling.{Admitted, Ending, Repeated, Silenced, Dropped, Done, Event, TurnedAway, Settles, Reading, Changing, Tallying, refusal, unless, eventOf, remembered, copies, copiesAny, howMany, ending, Progress, eventAfter, moved, progress, eventAt}
+use Rattle.server.specs.Serving.{Key, Server, keys, full, endingBy, eventBy, expiries, keyOf, nextChange, nextEvent, next, served, noKey}
 use Rattle.server.proofs.Finding.{matches, live, keys-set, keys-replicate, place-expired}
 
 -- ## What an event tells

@@ -5,16 +5,15 @@ use mathlib.Core.Bool.{true, false}
 use mathlib.Core.List.{List, [], _∷_}
 use Prim.Native.Nat.{ℕ, zero, suc, _+_}
 use native.Mathlib.Omega.{arith}
-use lib.ListN.{length}
 use Rattle.std.specs.Written.{decimal}
 use Rattle.register.specs.Values.{Bytes}
 use Rattle.register.specs.Counter.{counter}
-use Rattle.server.specs.Calls.{Counts, Answer, Reply, Silent, Refused, Tallied, Call, Arrival, Tally}
+use Rattle.server.specs.Calls.{Answer, Reply, Silent, Refused, Tallied, Call, Arrival, Tally}
 use Rattle.server.specs.Replies.{replyWith}
 use Rattle.server.specs.Requests.{coap}
 use Rattle.server.specs.Serving.{answer, served}
-use Rattle.server.specs.Ledger.{Grouped, calls, admitted, ledger, Premises}
-use Rattle.server.specs.Promises.{Promises, ledgerAt, registerAt, requests, doneRequests}
+use Rattle.server.specs.Ledger.{Grouped, calls, admitted, Premises}
+use Rattle.server.specs.Promises.{Promises, registerAt, requests, doneRequests}
 use Rattle.register.proofs.Counters.{counter-laws}
 use Rattle.server.proofs.Framed.{coap-framing}
 use Rattle.server.proofs.Keeping.{each-change-once}

@@ -1,15 +1,15 @@
 -- Lists of records: what stands in one, what a write leaves, where the place rule points, what a live record is.
 use Prim.Native.Nat.{ℕ, zero, suc, min, _+_, _<_, _≤_}
 use mathlib.Core.Path.{_≡_, refl, sym, ap, subst, _∙_}
-use mathlib.Core.Bool.{Bool, true, false, cond, not, _&&_, _||_}
+use mathlib.Core.Bool.{Bool, true, false, cond, _&&_, _||_}
 use mathlib.Core.Logic.{_⊎_, inl, inr, ⊎-elim}
-use mathlib.Core.List.{List, [], _∷_, _++_}
+use mathlib.Core.List.{List, [], _∷_}
 use native.Mathlib.Omega.{arith}
-use lib.Dec.{eqb, ltb, leb}
+use lib.Dec.{eqb, ltb}
 use native.Mathlib.Numerals.{add-one}
 use lib.ListN.{length, getD, set, replicate, length-map}
 use Rattle.std.specs.shelf.Lists.{All}
-use Rattle.std.proofs.shelf.Tests.{both-ways, and-parts, and-from, and-cases, and-left, and-right, or-cases, or-parts, cases-bool, cases-lt, eqb-true, eq-eqb, eqb-false, leb-true, leb-false, ltb-true, ltb-false, lt-ltb, le-ltb, true≢false, false≢true}
+use Rattle.std.proofs.shelf.Tests.{both-ways, and-parts, and-from, and-cases, or-cases, or-parts, cases-lt, eqb-true, eq-eqb, ltb-true, ltb-false, lt-ltb, true≢false, false≢true}
 use Rattle.register.specs.Places.{first, leastFrom, least, placeIn}
 use Rattle.register.specs.Values.{Bytes}
 use Rattle.server.specs.Settling.{Admitted}

@@ -1,11 +1,11 @@
 -- The messages of the server meet what the theorem needs of messages.
 use mathlib.Core.Path.{_≡_, refl, sym, ap, _∙_, subst}
-use mathlib.Core.Bool.{Bool, true, false, cond, not, _&&_, true≢false}
+use mathlib.Core.Bool.{Bool, true, false, not, _&&_, true≢false}
 use mathlib.Core.List.{List, [], _∷_, _++_}
-use Prim.Native.Nat.{ℕ, _+_, _*_, _/_, _%_, _^_, _<_, _≤_}
+use Prim.Native.Nat.{ℕ, _+_, _/_, _%_, _^_, _<_, _≤_}
 use native.Mathlib.Omega.{arith}
-use lib.Dec.{ltb, leb, eqb}
-use lib.ListN.{length, getD, take, drop, length-append}
+use lib.Dec.{ltb, eqb}
+use lib.ListN.{length, getD, drop, length-append}
 use lib.Seq.{length-take-le}
 use Rattle.std.specs.declared.option.Option.{Option}
 use Rattle.std.specs.declared.option.Option.the-variants.{Some, None}
@@ -15,20 +15,20 @@ use Rattle.message.specs.declared.fault.Rejection.{Rejection}
 use Rattle.message.specs.declared.fault.Rejection.the-variants.{TooLong, NotCoap, Fault}
 use Rattle.message.specs.Header.{Head, Opening, rejected, opens, framed, header, opening}
 use Rattle.message.specs.Options.{ReadOption, OptionList, broken, ended, optionsFrom, payloadOf}
-use Rattle.message.specs.Encoding.{Field, Message, optionBytes, optionsBytes, payloadBytes, headBytes, encode}
-use Rattle.message.specs.Message.{Parsed, refused, message, closing, inside, parse, Rising}
+use Rattle.message.specs.Encoding.{Field, optionsBytes, payloadBytes}
+use Rattle.message.specs.Message.{message, closing, inside, Rising}
 use Rattle.transcribe.proofs.Round.{written-read}
 use Rattle.register.specs.declared.values.ReadCode.{ReadCode}
 use Rattle.register.specs.declared.values.ReadCode.the-variants.{Content, NotFound}
 use Rattle.register.specs.declared.values.ChangeCode.{ChangeCode}
 use Rattle.register.specs.declared.values.ChangeCode.the-variants as code
-use Rattle.register.specs.Values.{Bytes, Path, Change, Read, Said, IsBody, IsRead, codeByte}
+use Rattle.register.specs.Values.{Bytes, Path, IsBody, codeByte}
 use Rattle.register.proofs.Conds.{cond-one}
 use Rattle.server.specs.Calls.{Answer, Reply, Silent, Refused, Tallied}
-use Rattle.server.specs.Messages.{Asked, Settled, Reads, Changes, Seen, Messages, isContent}
-use Rattle.server.specs.Replies.{Exchange, exchangeOf, exchangeIn, fewest, numberFrom, maxAgeOption, maxAgeIn, replyMessage, replyWith, readReply, showingTo, sayingTo, failingTo, resetFor, seenBy, seenIn}
-use Rattle.server.specs.Requests.{notRequest, badOption, isUnknown, isProxy, anyOption, pathIn, isPathValid, isRequest, methodOf, asksFor, requested, askedWith, rejectedAs, askedBy, exchangeBy, coap}
-use Rattle.server.specs.Promises.{seenFrom, Framing}
+use Rattle.server.specs.Messages.{Asked, Settled, Reads, Changes, Seen, isContent}
+use Rattle.server.specs.Replies.{Exchange, exchangeOf, exchangeIn, fewest, numberFrom, maxAgeOption, maxAgeIn, replyMessage, replyWith, readReply, failingTo, resetFor, seenBy, seenIn}
+use Rattle.server.specs.Requests.{notRequest, badOption, isUnknown, isProxy, anyOption, pathIn, isPathValid, isRequest, asksFor, requested, askedWith, askedBy, exchangeBy, coap}
+use Rattle.server.specs.Promises.{Framing}
 
 -- ## What stands in a header
 

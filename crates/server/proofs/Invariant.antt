@@ -1,25 +1,24 @@
 -- What holds of server and ledger after every history that meets the premises.
-use Prim.Native.Nat.{ℕ, _+_, _-_, _<_, _≤_}
+use Prim.Native.Nat.{ℕ, _+_, _<_, _≤_}
 use mathlib.Core.Path.{_≡_, refl, sym, ap, subst, _∙_}
-use mathlib.Core.Bool.{Bool, true, false, cond, not, _&&_}
+use mathlib.Core.Bool.{true, false, cond, not, _&&_}
 use mathlib.Core.Logic.{_⊎_, inl, inr, ⊎-elim}
 use mathlib.Core.List.{List, [], _∷_}
 use native.Mathlib.Omega.{arith}
-use lib.ListN.{length, getD, set, replicate}
+use lib.ListN.{length, getD, set}
 use Rattle.std.specs.shelf.Lists.{All}
 use Rattle.std.proofs.shelf.Elements.{all-weaker, all-set}
 use Rattle.std.proofs.shelf.Tests.{both-ways, cases-bool, cases-eq}
-use Rattle.std.specs.declared.option.Option.the-variants.{Some}
 use Rattle.register.specs.Places.{placeIn}
-use Rattle.register.specs.Values.{Bytes, IsMoment, IsBody}
+use Rattle.register.specs.Values.{Bytes, IsBody}
 use Rattle.register.specs.Meaning.{Meaning, Laws}
-use Rattle.server.specs.Calls.{Counts, Call}
-use Rattle.server.specs.Messages.{Asked, Settled, Reads, Changes, Messages, isContent}
+use Rattle.server.specs.Calls.{Counts}
+use Rattle.server.specs.Messages.{Changes, Messages, isContent}
 use Rattle.server.specs.Settling.{Admitted, Ending, Repeated, Silenced, Dropped, Done, Event, TurnedAway, Settles, Reading, Changing, Tallying}
-use Rattle.server.specs.Serving.{Key, Record, Server, keys, full, eventBy, expiries, keyOf, recorded, replyTo, nextChange, nextEvent, next, served, fresh, noKey, noRecord}
+use Rattle.server.specs.Serving.{Key, Record, Server, keys, eventBy, expiries, keyOf, recorded, replyTo, nextChange, nextEvent, next, served, fresh, noRecord}
 use Rattle.server.specs.Ledger.{Grouped, calls, eventIn, FirstReply, Ledger, isAnswered, replied, entered, booked, ledger, Arrived, listed, admitted, In, apart, Premises}
 use Rattle.server.specs.Promises.{Distinct, Framing}
-use Rattle.server.proofs.Finding.{matches, live, all-in, all-replicate, set-keeps, set-has, length-keys, getD-keys, place-expired, match-parts, match-from, Found, live-found, live-none, firstOf, in-knows, knows-in, same-bytes}
+use Rattle.server.proofs.Finding.{matches, live, all-in, all-replicate, set-keeps, set-has, length-keys, getD-keys, place-expired, match-parts, match-from, Found, live-found, live-none, firstOf, in-knows, knows-in}
 use Rattle.server.proofs.Events.{same-event, Apt, event-apt, Tells}
 
 abbrev pub arrived : ℕ → Admitted → Arrived

@@ -1,7 +1,7 @@
 -- The promises, from the invariant.
-use Prim.Native.Nat.{ℕ, suc, _+_, _*_, _<_, _≤_}
+use Prim.Native.Nat.{ℕ, suc, _+_, _*_, _<_}
 use mathlib.Core.Path.{_≡_, refl, sym, ap, subst, _∙_}
-use mathlib.Core.Bool.{Bool, true, false, cond, not, _&&_}
+use mathlib.Core.Bool.{true, false, cond, not, _&&_}
 use mathlib.Core.List.{List, [], _∷_, _++_}
 use native.Mathlib.Omega.{arith}
 use lib.ListN.{length}
@@ -10,17 +10,17 @@ use Rattle.std.proofs.shelf.Tests.{both-ways, true≢false, eq-eqb}
 use Rattle.std.specs.declared.option.Option.{Option}
 use Rattle.std.specs.declared.option.Option.the-variants.{Some}
 use Rattle.register.specs.declared.values.ReadCode.the-variants.{Content}
-use Rattle.register.specs.Values.{Bytes, Path, IsMoment, Shown, Read, IsBody}
+use Rattle.register.specs.Values.{Bytes, IsMoment, IsBody}
 use Rattle.register.specs.Meaning.{Meaning, Laws}
-use Rattle.server.specs.Calls.{Counts, Answer, Reply, Silent, Refused, Tallied, Call, Tally}
-use Rattle.server.specs.Messages.{Asked, Settled, Reads, Changes, Seen, Messages, isContent}
+use Rattle.server.specs.Calls.{Counts, Reply, Silent, Tallied, Call}
+use Rattle.server.specs.Messages.{Settled, Seen, Messages, isContent}
 use Rattle.server.specs.Settling.{Admitted, Ending, Repeated, Silenced, Dropped, Done, Event, TurnedAway, Settles, Reading, Changing, Tallying, count, counted, ended}
-use Rattle.server.specs.Serving.{Server, keys, eventBy, recorded, replyTo, answerChange, answerEvent, nextChange, nextEvent, answer, next, served}
-use Rattle.server.specs.Ledger.{Grouped, calls, eventIn, FirstReply, Ledger, isAnswered, replied, entered, booked, ledger, Arrived, listed, admitted, In, Premises}
-use Rattle.server.specs.Promises.{noting, firstReplies, isDone, does, doneRequests, requests, Distinct, Quiet, seenFrom, Framing, Current, Promises, Each-change-once}
+use Rattle.server.specs.Serving.{Server, keys, eventBy, recorded, replyTo, answerChange, answerEvent, nextChange, nextEvent, answer, served}
+use Rattle.server.specs.Ledger.{Grouped, calls, eventIn, Ledger, isAnswered, replied, entered, booked, ledger, Arrived, listed, admitted, In, Premises}
+use Rattle.server.specs.Promises.{noting, firstReplies, isDone, does, doneRequests, requests, Distinct, Quiet, Framing, Current, Each-change-once}
 use Rattle.server.proofs.Finding.{all-in, firstOf, in-knows, same-bytes}
 use Rattle.server.proofs.Events.{same-event, Apt, event-apt}
-use Rattle.server.proofs.Invariant.{arrived, Inv, Known, books, known, book-again, book-done, premises-before, invariant}
+use Rattle.server.proofs.Invariant.{Inv, Known, known, premises-before, invariant}
 
 same : {a b : Bytes} → Reply a ≡ Reply b → a ≡ b
 same e = cc e

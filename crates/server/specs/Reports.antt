@@ -1,11 +1,9 @@
 -- What a report to the host carries beside the answer.
-use mathlib.Core.Bool.{Bool, true, false, cond, not, _&&_}
+use mathlib.Core.Bool.{cond, not, _&&_}
 use mathlib.Core.List.{List, [], _∷_}
-use Prim.Native.Nat.{ℕ}
 use lib.Dec.{eqb}
 use Rattle.message.specs.declared.fault.MessageFault.{MessageFault}
 use Rattle.message.specs.declared.fault.MessageFault.the-variants.{InOption}
-use Rattle.message.specs.declared.fault.Rejection.{Rejection}
 use Rattle.message.specs.declared.fault.Rejection.the-variants.{TooLong, NotCoap, Fault}
 use Rattle.message.specs.Header.{Head, Opening, rejected, opens, opening}
 use Rattle.message.specs.Options.{ReadOption, OptionList, broken, ended, optionsFrom}
