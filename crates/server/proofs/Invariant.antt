@@ -1,7 +1,7 @@
 -- What holds of server and ledger after every history that meets the premises.
 use Prim.Native.Nat.{ℕ, _+_, _<_, _≤_}
 use mathlib.Core.Path.{_≡_, refl, sym, ap, subst, _∙_}
-use mathlib.Core.Bool.{true, false, cond, not, _&&_}
+use mathlib.Core.Bool.{true, false, cond, not}
 use mathlib.Core.Logic.{_⊎_, inl, inr, ⊎-elim}
 use mathlib.Core.List.{List, [], _∷_}
 use native.Mathlib.Omega.{arith}
@@ -16,7 +16,7 @@ use Rattle.server.specs.Calls.{Counts}
 use Rattle.server.specs.Messages.{Changes, Messages, isContent}
 use Rattle.server.specs.Settling.{Admitted, Ending, Repeated, Silenced, Dropped, Done, Event, TurnedAway, Settles, Reading, Changing, Tallying}
 use Rattle.server.specs.Serving.{Key, Record, Server, keys, eventBy, expiries, keyOf, recorded, replyTo, nextChange, nextEvent, next, served, fresh, noRecord}
-use Rattle.server.specs.Ledger.{Grouped, calls, eventIn, FirstReply, Ledger, isAnswered, replied, entered, booked, ledger, Arrived, listed, admitted, In, apart, Premises}
+use Rattle.server.specs.Ledger.{Grouped, calls, eventIn, FirstReply, Ledger, isAnswered, entered, booked, ledger, Arrived, listed, admitted, In, apart, Premises}
 use Rattle.server.specs.Promises.{Distinct, Framing}
 use Rattle.server.proofs.Finding.{matches, live, all-in, all-replicate, set-keeps, set-has, length-keys, getD-keys, place-expired, match-parts, match-from, Found, live-found, live-none, firstOf, in-knows, knows-in}
 use Rattle.server.proofs.Events.{same-event, Apt, event-apt, Tells}
@@ -174,6 +174,17 @@ module _ (m : Meaning) (ms : Messages) where
 
 -- ## What an arrival's fate says of its request
 
+-- what the ledger does with an arrival that ends so
+module _ (m : Meaning) (ms : Messages) (l : Ledger (m .Register)) (r : ℕ) (a : Admitted) where
+  abbrev pub book : Ending → Ledger (m .Register)
+  book f = booked m ms l r (Changing a f)
+
+  pub book-again : isAnswered (l .firsts) r ≡ true → l ≡ book Repeated
+  book-again e = ap (λ t. cond (not t) (entered m ms l r a) l) (sym e)
+
+  pub book-done : isAnswered (l .firsts) r ≡ false → entered m ms l r a ≡ book Done
+  book-done e = ap (λ t. cond (not t) (entered m ms l r a) l) (sym e)
+
 -- the reply that the ledger gives at a request's first arrival with a reply
 abbrev pub books : (m : Meaning) → Messages → Ledger (m .Register) → Admitted → Bytes
 books m ms l a = ms .saying (a .datagram) (m .says (l .register) (a .change) (a .moment))
@@ -238,21 +249,11 @@ module _ (m : Meaning) (law : Laws m) (ms : Messages) (sep : Framing ms) where
           plain = (sep .not-said (a .datagram) _, h .plain);
         }
 
-    -- what the ledger does with an arrival that ends so
-    abbrev book : Ending → Ledger (m .Register)
-    book f = cond (replied f && not (isAnswered (l .firsts) r)) (entered m ms l r a) l
-
-    pub book-again : isAnswered (l .firsts) r ≡ true → book Repeated ≡ l
-    book-again q = ap (λ t. cond (not t) (entered m ms l r a) l) q
-
-    pub book-done : isAnswered (l .firsts) r ≡ false → book Done ≡ entered m ms l r a
-    book-done q = ap (λ t. cond (not t) (entered m ms l r a) l) q
-
-    change-step : (f : Ending) → Known m ms v l r a f → Inv m ms (nextChange m ms v a f) (book f) (arrived r a ∷ es)
-    change-step Repeated k = subst (λ x. Inv m ms (nextChange m ms v a Repeated) x (arrived r a ∷ es)) (sym (book-again (in-knows (l .firsts) r _ (k .1)))) (stay _ _)
+    change-step : (f : Ending) → Known m ms v l r a f → Inv m ms (nextChange m ms v a f) (book m ms l r a f) (arrived r a ∷ es)
+    change-step Repeated k = subst (λ x. Inv m ms (nextChange m ms v a Repeated) x (arrived r a ∷ es)) (book-again m ms l r a (in-knows (l .firsts) r _ (k .1))) (stay _ _)
     change-step Silenced k = stay _ _
     change-step Dropped k = stay _ _
-    change-step Done k = subst (λ x. Inv m ms (nextChange m ms v a Done) x (arrived r a ∷ es)) (sym (book-done (k .0))) (done-step k)
+    change-step Done k = subst (λ x. Inv m ms (nextChange m ms v a Done) x (arrived r a ∷ es)) (book-done m ms l r a (k .0)) (done-step k)
 
   event-step : (v : Server (m .State)) (l : Ledger (m .Register)) (es : List Arrived) (r : ℕ) (k : Event) → Inv m ms v l es → Apt ms (v .last) (keys (v .records)) k → Premises (listed es r k) →
       Inv m ms (nextEvent m ms v k) (booked m ms l r k) (listed es r k)

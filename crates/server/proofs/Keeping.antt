@@ -1,7 +1,7 @@
 -- The promises, from the invariant.
 use Prim.Native.Nat.{ℕ, suc, _+_, _*_, _<_}
 use mathlib.Core.Path.{_≡_, refl, sym, ap, subst, _∙_}
-use mathlib.Core.Bool.{true, false, cond, not, _&&_}
+use mathlib.Core.Bool.{true, false, cond}
 use mathlib.Core.List.{List, [], _∷_, _++_}
 use native.Mathlib.Omega.{arith}
 use lib.ListN.{length}
@@ -16,11 +16,11 @@ use Rattle.server.specs.Calls.{Counts, Reply, Silent, Tallied, Call}
 use Rattle.server.specs.Messages.{Settled, Seen, Messages, isContent}
 use Rattle.server.specs.Settling.{Admitted, Ending, Repeated, Silenced, Dropped, Done, Event, TurnedAway, Settles, Reading, Changing, Tallying, count, counted, ended}
 use Rattle.server.specs.Serving.{Server, keys, eventBy, recorded, replyTo, answerChange, answerEvent, nextChange, nextEvent, answer, served}
-use Rattle.server.specs.Ledger.{Grouped, calls, eventIn, Ledger, isAnswered, replied, entered, booked, ledger, Arrived, listed, admitted, In, Premises}
+use Rattle.server.specs.Ledger.{Grouped, calls, eventIn, Ledger, booked, ledger, Arrived, listed, admitted, In, Premises}
 use Rattle.server.specs.Promises.{noting, firstReplies, isDone, does, doneRequests, requests, Distinct, Quiet, Framing, Current, Each-change-once}
 use Rattle.server.proofs.Finding.{all-in, firstOf, in-knows, same-bytes}
 use Rattle.server.proofs.Events.{same-event, Apt, event-apt}
-use Rattle.server.proofs.Invariant.{Inv, Known, known, premises-before, invariant}
+use Rattle.server.proofs.Invariant.{book, book-again, book-done, Inv, Known, known, premises-before, invariant}
 
 same : {a b : Bytes} → Reply a ≡ Reply b → a ≡ b
 same e = cc e
@@ -84,35 +84,26 @@ module _ (m : Meaning) (law : Laws m) (ms : Messages) (sep : Framing ms) where
     copy-answer b d i Dropped k = absurd (both-ways _ k (in-knows (l .firsts) r b i))
     copy-answer b d i Done k = absurd (both-ways _ (k .0) (in-knows (l .firsts) r b i))
 
-    abbrev book : Ending → Ledger (m .Register)
-    book f = cond (replied f && not (isAnswered (l .firsts) r)) (entered m ms l r a) l
-
-    kept-book : isAnswered (l .firsts) r ≡ true → l ≡ book Repeated
-    kept-book e = ap (λ t. cond (not t) (entered m ms l r a) l) (sym e)
-
-    new-book : isAnswered (l .firsts) r ≡ false → entered m ms l r a ≡ book Done
-    new-book e = ap (λ t. cond (not t) (entered m ms l r a) l) (sym e)
-
-    first-change : (f : Ending) → Known m ms v l r a f → noting (l .firsts) r (Changing a f) (answerChange m ms v a f) ≡ book f .firsts
+    first-change : (f : Ending) → Known m ms v l r a f → noting (l .firsts) r (Changing a f) (answerChange m ms v a f) ≡ (book m ms l r a f) .firsts
     first-change Repeated k =
         let e = in-knows (l .firsts) r _ (k .1) in
-        ap (λ t. cond t (l .firsts) (firstOf r (recorded (v .records) a) ∷ l .firsts)) e ∙ ap (λ (x : Ledger (m .Register)). x .firsts) (kept-book e)
+        ap (λ t. cond t (l .firsts) (firstOf r (recorded (v .records) a) ∷ l .firsts)) e ∙ ap (λ (x : Ledger (m .Register)). x .firsts) (book-again m ms l r a e)
     first-change Silenced k = refl
     first-change Dropped k = refl
     first-change Done k =
-        ap (λ t. cond t (l .firsts) (firstOf r (replyTo m ms (v .stack) a) ∷ l .firsts)) (k .0) ∙ ap (λ b. firstOf r b ∷ l .firsts) (k .3) ∙ ap (λ (x : Ledger (m .Register)). x .firsts) (new-book (k .0))
+        ap (λ t. cond t (l .firsts) (firstOf r (replyTo m ms (v .stack) a) ∷ l .firsts)) (k .0) ∙ ap (λ b. firstOf r b ∷ l .firsts) (k .3) ∙ ap (λ (x : Ledger (m .Register)). x .firsts) (book-done m ms l r a (k .0))
 
-    once-change : (f : Ending) → Known m ms v l r a f → cond (isDone f) (r ∷ requests (l .firsts)) (requests (l .firsts)) ≡ requests (book f .firsts)
-    once-change Repeated k = ap (λ (x : Ledger (m .Register)). requests (x .firsts)) (kept-book (in-knows (l .firsts) r _ (k .1)))
+    once-change : (f : Ending) → Known m ms v l r a f → cond (isDone f) (r ∷ requests (l .firsts)) (requests (l .firsts)) ≡ requests ((book m ms l r a f) .firsts)
+    once-change Repeated k = ap (λ (x : Ledger (m .Register)). requests (x .firsts)) (book-again m ms l r a (in-knows (l .firsts) r _ (k .1)))
     once-change Silenced k = refl
     once-change Dropped k = refl
-    once-change Done k = ap (λ (x : Ledger (m .Register)). requests (x .firsts)) (new-book (k .0))
+    once-change Done k = ap (λ (x : Ledger (m .Register)). requests (x .firsts)) (book-done m ms l r a (k .0))
 
-    done-change : (n : Counts) → n .done ≡ length (l .firsts) → (f : Ending) → Known m ms v l r a f → count n f .done ≡ length (book f .firsts)
-    done-change n e Repeated k = e ∙ ap (λ (x : Ledger (m .Register)). length (x .firsts)) (kept-book (in-knows (l .firsts) r _ (k .1)))
+    done-change : (n : Counts) → n .done ≡ length (l .firsts) → (f : Ending) → Known m ms v l r a f → count n f .done ≡ length ((book m ms l r a f) .firsts)
+    done-change n e Repeated k = e ∙ ap (λ (x : Ledger (m .Register)). length (x .firsts)) (book-again m ms l r a (in-knows (l .firsts) r _ (k .1)))
     done-change n e Silenced k = e
     done-change n e Dropped k = e
-    done-change n e Done k = let h : n .done + 1 ≡ suc (length (l .firsts)) = omega arith in h ∙ ap (λ (x : Ledger (m .Register)). length (x .firsts)) (new-book (k .0))
+    done-change n e Done k = let h : n .done + 1 ≡ suc (length (l .firsts)) = omega arith in h ∙ ap (λ (x : Ledger (m .Register)). length (x .firsts)) (book-done m ms l r a (k .0))
 
     -- the bytes of a change's reply are no 2.05
     plain-change : All (λ n. isContent (ms .seenIn (n .bytes)) ≡ false) (l .firsts) → (f : Ending) → Known m ms v l r a f → (b : Bytes) → answerChange m ms v a f ≡ Reply b → isContent (ms .seenIn b) ≡ false
