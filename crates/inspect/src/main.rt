@@ -1,5 +1,7 @@
 // Reads lines of hexadecimal text from standard input, each a datagram, and writes a line for each that says what it is
 // as a CoAP message. The last line says how many lines there were of each kind.
+#![tactic(auto)]
+
 mod datagram;
 mod error;
 mod fields;

@@ -1,4 +1,6 @@
 // The lines that a program prints for the answers of a server.
+#![tactic(auto)]
+
 mod answer;
 mod notice;
 mod piece;

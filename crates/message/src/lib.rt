@@ -1,4 +1,6 @@
 // CoAP messages (RFC 7252): a reader that copies nothing, and a writer over a lent buffer.
+#![tactic(auto)]
+
 pub mod fault;
 pub mod header;
 pub mod option;

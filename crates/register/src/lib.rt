@@ -1,4 +1,6 @@
 // Values, what a resource means, and the trait of resources.
+#![tactic(auto)]
+
 pub mod bytes;
 pub mod path;
 pub mod place;

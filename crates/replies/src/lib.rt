@@ -1,4 +1,6 @@
 // Replies, written into a lent buffer.
+#![tactic(auto)]
+
 ghost use Rattle.std.specs.Prelude.{◌≡◌, ◌≤◌, [], length};
 ghost use Rattle.register.specs.Model.{read_of, said_of};
 ghost use Rattle.register.specs.Values.{code_byte};

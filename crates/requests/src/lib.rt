@@ -1,4 +1,6 @@
 // What a datagram asks for, and whom a reply to it goes to.
+#![tactic(auto)]
+
 pub mod asked;
 pub mod exchange;
 pub mod request;

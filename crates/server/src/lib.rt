@@ -1,4 +1,6 @@
 // The promise of the server, over every run and every resource. Nothing is served here yet.
+#![tactic(auto)]
+
 ghost use Rattle.server.specs.Requests.{coap};
 ghost use Rattle.server.specs.Promises.{EachChangeOnce};
 

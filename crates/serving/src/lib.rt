@@ -1,4 +1,6 @@
 // The server: deduplication records, arrivals and tallies over any resource.
+#![tactic(auto)]
+
 mod record;
 mod reply;
 mod serve;

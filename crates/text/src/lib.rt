@@ -1,4 +1,6 @@
 // Bytes and numbers as text: hexadecimal is read and written, and decimal is written.
+#![tactic(auto)]
+
 mod decimal;
 mod hex;
 

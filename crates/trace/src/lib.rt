@@ -1,4 +1,6 @@
 // A trace: recorded calls of the server, in blocks of 512 bytes that each carry a check.
+#![tactic(auto)]
+
 pub mod block;
 mod check;
 pub mod reader;

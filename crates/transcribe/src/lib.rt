@@ -1,4 +1,6 @@
 // Reading and writing in one: the fields of a datagram, written again.
+#![tactic(auto)]
+
 ghost use Rattle.std.specs.Prelude.{◌≡◌, ◌≤◌, length, Ok};
 ghost use Rattle.transcribe.specs.declared.TranscribeError.TheVariants.{Rejected, Unwritten};
 ghost use Rattle.message.specs.declared.fault.Rejection.TheVariants.{Fault};

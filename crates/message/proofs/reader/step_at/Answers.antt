@@ -9,4 +9,4 @@ returns-in-err-option-at c =
     rw (p.1, p.2) (c.in-err-option-at.ensures ∙ step_cons c.args.at c.args.before c.args.rest.now (search rules) c.if-first.false)
 
 pub returns : goal.returns
-returns c = c.in-ok-option-at.ensures ∙ step_cons c.args.at c.args.before c.args.rest.now (search rules) c.if-first.false
+returns c = c.in_ok-option_at.ensures ∙ step_cons c.args.at c.args.before c.args.rest.now (search rules) c.if-first.false

@@ -23,12 +23,12 @@ returns-in-err-step-at c =
 pub returns-in-None : goal.returns-in-None
 returns-in-None c =
     let r = c.args.self.now in
-    let e = ap (λ o. next_step (Ok o)) (sym c.in-None.is) ∙ c.in-ok-step-at.ensures ∙ ap (step r.at r.number) (take_rest r.datagram.now r.at) in
+    let e = ap (λ o. next_step (Ok o)) (sym c.in-None.is) ∙ c.in_ok-step_at.ensures ∙ ap (step r.at r.number) (take_rest r.datagram.now r.at) in
     record { answer = ap next_answer e; after = ap (λ s. moved_by s r) e }
 
 pub returns-in-Some : goal.returns-in-Some
 returns-in-Some c =
     let r = c.args.self.now in
-    let e = ap (λ o. next_step (Ok o)) (sym c.in-Some.is) ∙ c.in-ok-step-at.ensures ∙ ap (step r.at r.number) (take_rest r.datagram.now r.at) in
+    let e = ap (λ o. next_step (Ok o)) (sym c.in-Some.is) ∙ c.in_ok-step_at.ensures ∙ ap (step r.at r.number) (take_rest r.datagram.now r.at) in
     let number = ap (λ f. f.number) c.field.ensures ∙ field_number c.in-Some.option in
     record { answer = ap next_answer e; after = (λ i. record { datagram = r.datagram; at = c.in-Some.after; number = number i }) ∙ ap (λ s. moved_by s r) e }

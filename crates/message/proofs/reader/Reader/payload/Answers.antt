@@ -6,8 +6,8 @@ use Rattle.message.proofs.Walks.{turn, Drew, payload_more}
 use Rattle.message.proofs.reader.Reader.payload.Goals as goal
 
 -- what `next` found
-option : (c : goal.In-Some) → Drew c.loop-option.rest c.next.new.self (read_option c.in-Some.-option)
-option c = turn c.loop-option.rest c.next.new.self _ (ap (λ o. read_answer (Ok o)) (sym c.in-Some.is) ∙ c.in-ok--option.ensures.answer) c.next.ensures.after
+_option : (c : goal.In-Some) → Drew c.loop-option.rest c.next.new.self (read_option c.in-Some._option)
+_option c = turn c.loop-option.rest c.next.new.self _ (ap (λ o. read_answer (Ok o)) (sym c.in-Some.is) ∙ c.in-ok--option.ensures.answer) c.next.ensures.after
 
 pub returns-in-err--option : goal.returns-in-err--option
 returns-in-err--option c =
@@ -16,18 +16,18 @@ returns-in-err--option c =
     rw (p.1, p.2) (sym c.loop-option.invariant.1 ∙ ap (payload_after c.args.self.now.datagram.now) f.1 ∙ ap Err (sym f.2))
 
 pub loop-option-smaller : goal.loop-option-smaller
-loop-option-smaller c = let o = option c in omega (arith, o.forward, o.inside, ap (λ r. length r.now) c.loop-option.invariant.0)
+loop-option-smaller c = let o = _option c in omega (arith, o.forward, o.inside, ap (λ r. length r.now) c.loop-option.invariant.0)
 
 pub loop-option-preserved : goal.loop-option-preserved
 loop-option-preserved c =
-    let o = option c in
+    let o = _option c in
     let d = c.args.self.now.datagram.now in
     (o.same ∙ c.loop-option.invariant.0, payload_more d (read_option c.in-Some.-option) (options_of c.next.new.self) ∙ ap (payload_after d) (sym o.left) ∙ c.loop-option.invariant.1)
 
 pub returns : goal.returns
 returns c =
     let d = c.args.self.now.datagram.now in
-    let s = turn c.loop-option.rest c.next.new.self _ (ap (λ o. read_answer (Ok o)) (sym c.in-default.is) ∙ c.in-ok--option.ensures.answer) c.next.ensures.after in
+    let s = turn c.loop-option.rest c.next.new.self _ (ap (λ o. read_answer (Ok o)) (sym c.in_default.is) ∙ c.in_ok-_option.ensures.answer) c.next.ensures.after in
     let same = ap (λ q. q.datagram) s.same ∙ c.loop-option.invariant.0 in
     sym c.loop-option.invariant.1 ∙ ap (payload_after d) s.left
     ∙ ap Ok (sym (c.behind.ensures ∙ (λ i. payload_of (drop (s.same i).at (same i).now))))

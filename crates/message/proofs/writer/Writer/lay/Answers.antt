@@ -8,6 +8,6 @@ returns c =
     let w = c.args.self.now in
     record {
       lender = refl;
-      state = λ i. record { buffer = laid_part w.len _ w.out.now _ c.args.bytes.now c.copy-from-slice.ensures.after refl i; len = w.len + length c.args.bytes.now; number = w.number; stage = w.stage };
+      state = λ i. record { buffer = laid_part w.len _ w.out.now _ c.args.bytes.now c.copy_from_slice.ensures.after refl i; len = w.len + length c.args.bytes.now; number = w.number; stage = w.stage };
       size = search rules;
     }

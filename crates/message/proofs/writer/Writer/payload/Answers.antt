@@ -19,6 +19,6 @@ returns c =
     let e = payload_some w (state_of c.lay.new.self) (state_of c.lay-2.new.self) p some within c.lay.ensures.state c.lay-2.ensures.state in
     record {
       lender = c.lay-2.ensures.lender ∙ c.lay.ensures.lender;
-      answer = payload_accepted w p c.in-ok-following.ensures (omega (arith, room, size)) (omega (arith, room, size));
+      answer = payload_accepted w p c.in_ok-following.ensures (omega (arith, room, size)) (omega (arith, room, size));
       state = λ i. record { buffer = (e i).buffer; len = (e i).len; number = (e i).number; stage = stage_some p w.stage some i };
     }

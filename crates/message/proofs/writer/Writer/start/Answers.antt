@@ -11,6 +11,6 @@ returns c =
     let e = start_done w (state_of c.lay.new.self) (state_of c.lay-2.new.self) h _ _ _ c.lay.ensures.state c.lay-2.ensures.state (ap (λ b. 64 + b * 16 + length h.token) c.bits.ensures) (search rules) (search rules) in
     record {
       lender = c.lay-2.ensures.lender ∙ c.lay.ensures.lender;
-      answer = start_accepted w h (search rules) (search rules) c.in-ok-beginning.ensures (search rules);
-      state = λ i. record { buffer = e.0 i; len = e.1 i; number = 0; stage = c.after-header-self.ensures i };
+      answer = start_accepted w h (search rules) (search rules) c.in_ok-beginning.ensures (search rules);
+      state = λ i. record { buffer = e.0 i; len = e.1 i; number = 0; stage = c.after_header-self.ensures i };
     }
