@@ -1,8 +1,9 @@
 // Bytes held inline, at most a given number of them.
 ghost use Rattle.std.specs.Prelude.{◌≡◌, ◌<◌, ◌≤◌, [], length, take, Ok, Err, Decides};
 ghost use Rattle.register.specs.Model.{bytes_of};
-ghost use Rattle.std.specs.Cmp.Rules.{comparing};
-ghost use Rattle.std.proofs.Common.{rules};
+ghost use Rattle.std.specs.Str.{bytes_eq};
+ghost use Rattle.std.specs.Cmp.{on_per, partial_equiv_from_equiv};
+ghost use Rattle.std.specs.Cmp.Lexicographic.{nat_list_eq_equiv};
 
 // A value that would have more or fewer bytes or segments than it may, or lie past the last moment.
 #[derive(Clone, Copy, PartialEq, Eq, Debug)]
@@ -74,11 +75,14 @@ impl<const N: usize> Bytes<N> {
 }
 
 impl<const N: usize> PartialEq for Bytes<N> {
-    ghost equals = { λ x y r. Decides r (bytes_of x ≡ bytes_of y) };
+    ghost eq = { λ x y. bytes_eq (bytes_of x) (bytes_of y) };
 
-    ghost laws = { Prim.search (comparing, rules) };
+    ghost laws = { on_per bytes_of (partial_equiv_from_equiv nat_list_eq_equiv) };
 
-    fn eq(&self, other: &Bytes<N>) -> bool {
+    fn eq(&self, other: &Bytes<N>) -> bool
+        ensures same { result ≡ bytes_eq (bytes_of self.now) (bytes_of other.now) }
+        ensures decides { Decides result (bytes_of self.now ≡ bytes_of other.now) }
+    {
         self.as_slice() == other.as_slice()
     }
 }

@@ -7,18 +7,18 @@ use Rattle.transcribe.proofs.Copying.{field_as, CopyTurn, copy_turn, copy_end, n
 use Rattle.transcribe.proofs.copy_options.Goals as goal
 
 -- a turn of the loop
-copied : (c : goal.In-ok-option-2) → CopyTurn c.loop-option.reader c.next.new.self (state_of c.loop-option.writer) (field_as c.field-field.result)
-copied c = copy_turn _ _ _ c.in-Some.option _ (ap (λ o. read_answer (Ok o)) (sym c.in-Some.is) ∙ c.in-ok-option.ensures.answer) c.next.ensures.after c.loop-option.invariant.2 c.field-field.ensures
+copied : (c : goal.In_ok-option-2) → CopyTurn c.loop-option.reader c.next.new.self (state_of c.loop-option.writer) (field_as c.field-field.result)
+copied c = copy_turn _ _ _ c.in-Some.option _ (ap (λ o. read_answer (Ok o)) (sym c.in-Some.is) ∙ c.in_ok-option.ensures.answer) c.next.ensures.after c.loop-option.invariant.2 c.field-field.ensures
 
-pub returns-in-err-option : goal.returns-in-err-option
-returns-in-err-option c =
-    let f = turn c.loop-option.reader c.next.new.self _ c.in-err-option.ensures.answer c.next.ensures.after in
+pub returns-in_err-option : goal.returns-in_err-option
+returns-in_err-option c =
+    let f = turn c.loop-option.reader c.next.new.self _ c.in_err-option.ensures.answer c.next.ensures.after in
     absurd (subst (λ l. Copyable l (state_of c.loop-option.writer)) f.1 c.loop-option.invariant.2)
 
-pub returns-in-err-option-2 : goal.returns-in-err-option-2
-returns-in-err-option-2 c =
-    let t = copy_turn c.loop-option.reader c.next.new.self (state_of c.loop-option.writer) c.in-Some.option c.field-field.result (ap (λ o. read_answer (Ok o)) (sym c.in-Some.is) ∙ c.in-ok-option.ensures.answer) c.next.ensures.after c.loop-option.invariant.2 c.field-field.ensures in
-    absurd (never_refused c.option.result _ _ c.option.ensures.answer t.accepted c.in-err-option-2.was)
+pub returns-in_err-option-2 : goal.returns-in_err-option-2
+returns-in_err-option-2 c =
+    let t = copy_turn c.loop-option.reader c.next.new.self (state_of c.loop-option.writer) c.in-Some.option c.field-field.result (ap (λ o. read_answer (Ok o)) (sym c.in-Some.is) ∙ c.in_ok-option.ensures.answer) c.next.ensures.after c.loop-option.invariant.2 c.field-field.ensures in
+    absurd (never_refused c.option.result _ _ c.option.ensures.answer t.accepted c.in_err-option-2.was)
 
 pub loop-option-smaller : goal.loop-option-smaller
 loop-option-smaller c = let t = copied c in omega (arith, t.forward, t.inside, ap (λ r. length r.now) c.loop-option.invariant.0)
@@ -36,7 +36,7 @@ loop-option-preserved c =
 
 pub returns : goal.returns
 returns c =
-    let s : Stopped c.loop-option.reader c.next.new.self = turn c.loop-option.reader c.next.new.self _ (ap (λ o. read_answer (Ok o)) (sym c.in-default.is) ∙ c.in-ok-option.ensures.answer) c.next.ensures.after in
+    let s : Stopped c.loop-option.reader c.next.new.self = turn c.loop-option.reader c.next.new.self _ (ap (λ o. read_answer (Ok o)) (sym c.in_default.is) ∙ c.in_ok-option.ensures.answer) c.next.ensures.after in
     record {
       answer = refl;
       lender = c.loop-option.invariant.1;

@@ -9,16 +9,16 @@ use Rattle.inspect.proofs.datagram.push_message.Goals as goal
 
 pub returns : goal.returns
 returns c =
-    let opened = c.in-ok-header.ensures in
-    let q = c.in-ok-header.reader in
+    let opened = c.in_ok-header.ensures in
+    let q = c.in_ok-header.reader in
     let d = c.args.datagram.now in
-    let payload = c.in-ok-payload.payload.now in
+    let payload = c.in_ok-payload.payload.now in
     let before = vec_items c.args.out.now in
-    let listed = vec_items c.push-options.new.out in
-    let line = message_line d (head_of c.in-ok-header.header) q.at (options_of q) payload before listed
+    let listed = vec_items c.push_options.new.out in
+    let line = message_line d (head_of c.in_ok-header.header) q.at (options_of q) payload before listed
     opened.0
     (sym (λ i. options_from (opened.1 i).now q.at (opened.2 i)))
-    (ap (λ r. payload_after r.now (options_of q)) (sym opened.1) ∙ c.in-ok-payload.ensures)
-    (ap (λ l. behind l (text_in options_text (options_of q))) (sym c.in-ok-push-header.ensures) ∙ c.in-ok-push-options.ensures) in
+    (ap (λ r. payload_after r.now (options_of q)) (sym opened.1) ∙ c.in_ok-payload.ensures)
+    (ap (λ l. behind l (text_in options_text (options_of q))) (sym c.in_ok-push_header.ensures) ∙ c.in_ok-push_options.ensures) in
     let wrote : vec_items c.push-2.new.self ≡ listed ++ codes " " ++ bytes_text payload ++ line_feed = search rules in
     record { written = line ∙ ap (λ (l : List ℕ). Ok l) (sym wrote); kept = search rules }

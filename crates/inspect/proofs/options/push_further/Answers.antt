@@ -8,13 +8,13 @@ use Rattle.inspect.proofs.Listing.{behind_refused, drawn, text_drawn, text_ended
 use Rattle.inspect.proofs.options.push_further.Goals as goal
 
 -- What `next` found.
-option : (c : goal.In-ok-push-option) → Drew c.loop-option.reader c.next.new.self (read_option c.in-Some.option)
-option c = drawn further_text c.loop-option.reader c.next.new.self c.next.ensures.after c.in-ok-option.ensures.answer c.in-Some.option c.in-Some.is
+option : (c : goal.In_ok-push_option) → Drew c.loop-option.reader c.next.new.self (read_option c.in-Some.option)
+option c = drawn further_text c.loop-option.reader c.next.new.self c.next.ensures.after c.in_ok-option.ensures.answer c.in-Some.option c.in-Some.is
 
-pub returns-in-err-option : goal.returns-in-err-option
-returns-in-err-option c =
-    let p = err_from_is_err_and c.from-residual.result c.from-residual.ensures.1 in
-    let e = text_fault further_text c.loop-option.reader c.next.new.self c.next.ensures.after _ c.in-err-option.ensures.answer in
+pub returns-in_err-option : goal.returns-in_err-option
+returns-in_err-option c =
+    let p = err_from_is_err_and c.from_residual.result c.from_residual.ensures.1 in
+    let e = text_fault further_text c.loop-option.reader c.next.new.self c.next.ensures.after _ c.in_err-option.ensures.answer in
     rw (p.1, p.2) (behind_refused (vec_items c.args.out.now) _ _ (sym c.loop-option.invariant.1 ∙ ap (behind (vec_items c.loop-option.out)) e))
 
 pub loop-option-smaller : goal.loop-option-smaller
@@ -24,10 +24,10 @@ pub loop-option-preserved : goal.loop-option-preserved
 loop-option-preserved c =
     let t = codes "," ++ option_text (read_option c.in-Some.option) in
     let before = vec_items c.loop-option.out in
-    let after = vec_items c.push-option.new.out in
+    let after = vec_items c.push_option.new.out in
     let pushed : after ≡ before ++ t = search (rules, append_assoc) in (
       (option c).same ∙ c.loop-option.invariant.0,
-      text_drawn further_text c.loop-option.reader c.next.new.self c.next.ensures.after c.in-ok-option.ensures.answer c.in-Some.option c.in-Some.is t before after (λ os. refl) pushed
+      text_drawn further_text c.loop-option.reader c.next.new.self c.next.ensures.after c.in_ok-option.ensures.answer c.in-Some.option c.in-Some.is t before after (λ os. refl) pushed
           ∙ c.loop-option.invariant.1,
     )
 
@@ -35,4 +35,4 @@ pub returns : goal.returns
 returns c =
     let before = vec_items c.loop-option.out in
     sym c.loop-option.invariant.1
-    ∙ text_ended further_text c.loop-option.reader c.next.new.self c.next.ensures.after c.in-ok-option.ensures.answer c.in-default.is before before (sym (append-nil before))
+    ∙ text_ended further_text c.loop-option.reader c.next.new.self c.next.ensures.after c.in_ok-option.ensures.answer c.in_default.is before before (sym (append-nil before))

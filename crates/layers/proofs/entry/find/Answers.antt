@@ -8,14 +8,14 @@ use Rattle.layers.proofs.entry.find.Goals as goal
 
 pub loop-entry-preserved : goal.loop-entry-preserved
 loop-entry-preserved c = (
-  c.loop-entry.invariant.0 ∙ hit_more c.args.entries.now c.loop-entry.entry-index _ _ c.loop-entry-test.true _ _ c.if-is-fresh.ensures,
-  c.loop-entry.invariant.1 ∙ from_entries_more c.args.entries.now c.loop-entry.entry-index _ _ c.loop-entry-test.true _ _ c.if-is-fresh.ensures,
+  c.loop-entry.invariant.0 ∙ hit_more c.args.entries.now c.loop-entry.entry-index _ _ c.loop-entry-test.true _ _ c.if-is_fresh.ensures,
+  c.loop-entry.invariant.1 ∙ from_entries_more c.args.entries.now c.loop-entry.entry-index _ _ c.loop-entry-test.true _ _ c.if-is_fresh.ensures,
 )
 
-pub returns-then-is-fresh : goal.returns-then-is-fresh
-returns-then-is-fresh c = (
-  c.loop-entry.invariant.0 ∙ hit_more c.args.entries.now c.loop-entry.entry-index _ _ c.loop-entry-test.true _ _ c.if-is-fresh.ensures,
-  c.answer.ensures ∙ sym (c.loop-entry.invariant.1 ∙ from_entries_more c.args.entries.now c.loop-entry.entry-index _ _ c.loop-entry-test.true _ _ c.if-is-fresh.ensures),
+pub returns-then-is_fresh : goal.returns-then-is_fresh
+returns-then-is_fresh c = (
+  c.loop-entry.invariant.0 ∙ hit_more c.args.entries.now c.loop-entry.entry-index _ _ c.loop-entry-test.true _ _ c.if-is_fresh.ensures,
+  c.answer.ensures ∙ sym (c.loop-entry.invariant.1 ∙ from_entries_more c.args.entries.now c.loop-entry.entry-index _ _ c.loop-entry-test.true _ _ c.if-is_fresh.ensures),
 )
 
 pub returns : goal.returns

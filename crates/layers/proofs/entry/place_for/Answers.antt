@@ -10,17 +10,17 @@ use Rattle.layers.proofs.entry.place_for.Goals as goal
 
 pub loop-i-preserved : goal.loop-i-preserved
 loop-i-preserved c =
-    let more = first_more c.args.entries.now c.loop-i.i _ _ c.loop-i-test.true _ c.if-is-for.ensures in
+    let more = first_more c.args.entries.now c.loop-i.i _ _ c.loop-i-test.true _ c.if-is_for.ensures in
     let before = c.loop-i.invariant.1 in (
-      c.loop-i.invariant.0 ∙ holds_any_more c.args.entries.now c.loop-i.i _ _ c.loop-i-test.true _ c.if-is-for.ensures,
+      c.loop-i.invariant.0 ∙ holds_any_more c.args.entries.now c.loop-i.i _ _ c.loop-i-test.true _ c.if-is_for.ensures,
       omega (arith, more, before),
     )
 
-pub returns-then-is-for : goal.returns-then-is-for
-returns-then-is-for c =
-    let more = first_more c.args.entries.now c.loop-i.i _ _ c.loop-i-test.true _ c.if-is-for.ensures in
+pub returns-then-is_for : goal.returns-then-is_for
+returns-then-is_for c =
+    let more = first_more c.args.entries.now c.loop-i.i _ _ c.loop-i-test.true _ c.if-is_for.ensures in
     let before = c.loop-i.invariant.1 in
-    let some = c.loop-i.invariant.0 ∙ holds_any_more c.args.entries.now c.loop-i.i _ _ c.loop-i-test.true _ c.if-is-for.ensures in
+    let some = c.loop-i.invariant.0 ∙ holds_any_more c.args.entries.now c.loop-i.i _ _ c.loop-i-test.true _ c.if-is_for.ensures in
     record {
       value = (omega (arith, more, before)) ∙ sym (cond-true _ (first (holds (segments_of c.args.path.now)) (entries_of c.args.entries.now)) _ some);
       within = λ _. c.loop-i-test.true;

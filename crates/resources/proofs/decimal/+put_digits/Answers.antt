@@ -3,8 +3,8 @@ use Rattle.resources.proofs.Tens.{one_digit, first_digit, length_step, last_digi
 use Rattle.resources.proofs.decimal.+put_digits.Goals as goal
 use Rattle.resources.proofs.decimal.+put_digits.Goals.{then-n-lt10, else-n-lt10}
 
-pub put-digits-before-requires : goal.put-digits-before-requires
-put-digits-before-requires t c = search (rules, length_step)
+pub put_digits-before-requires : goal.put_digits-before-requires
+put_digits-before-requires t c = search (rules, length_step)
 
 pub bounds-out-before : goal.bounds-out-before
 bounds-out-before t c =

@@ -2,8 +2,8 @@ use Rattle.std.proofs.Common.{rules}
 use Rattle.resources.proofs.Tens.{ten_digits, digits_front}
 use Rattle.resources.proofs.decimal.digits.Goals as goal
 
-pub put-digits-count-requires : goal.put-digits-count-requires
-put-digits-count-requires c = search (rules, ten_digits)
+pub put_digits-count-requires : goal.put_digits-count-requires
+put_digits-count-requires c = search (rules, ten_digits)
 
 pub slice-bounds-buffer-end : goal.slice-bounds-buffer-end
 slice-bounds-buffer-end c = search (rules, ten_digits)

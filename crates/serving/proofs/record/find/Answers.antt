@@ -7,14 +7,14 @@ use Rattle.serving.proofs.record.find.Goals as goal
 
 pub loop-record-preserved : goal.loop-record-preserved
 loop-record-preserved c = (
-  c.loop-record.invariant.0 ∙ live_more c.args.records.now c.loop-record.record-index _ c.loop-record-test.true _ _ _ _ c.if-is-live.ensures,
-  c.loop-record.invariant.1 ∙ recorded_more c.args.records.now c.loop-record.record-index _ c.loop-record-test.true _ _ _ _ c.if-is-live.ensures,
+  c.loop-record.invariant.0 ∙ live_more c.args.records.now c.loop-record.record-index _ c.loop-record-test.true _ _ _ _ c.if-is_live.ensures,
+  c.loop-record.invariant.1 ∙ recorded_more c.args.records.now c.loop-record.record-index _ c.loop-record-test.true _ _ _ _ c.if-is_live.ensures,
 )
 
-pub returns-then-is-live : goal.returns-then-is-live
-returns-then-is-live c = (
-  c.loop-record.invariant.0 ∙ live_more c.args.records.now c.loop-record.record-index _ c.loop-record-test.true _ _ _ _ c.if-is-live.ensures,
-  sym (c.loop-record.invariant.1 ∙ recorded_more c.args.records.now c.loop-record.record-index _ c.loop-record-test.true _ _ _ _ c.if-is-live.ensures),
+pub returns-then-is_live : goal.returns-then-is_live
+returns-then-is_live c = (
+  c.loop-record.invariant.0 ∙ live_more c.args.records.now c.loop-record.record-index _ c.loop-record-test.true _ _ _ _ c.if-is_live.ensures,
+  sym (c.loop-record.invariant.1 ∙ recorded_more c.args.records.now c.loop-record.record-index _ c.loop-record-test.true _ _ _ _ c.if-is_live.ensures),
 )
 
 pub returns : goal.returns

@@ -8,4 +8,4 @@ use Rattle.sessions.proofs.session.office_session.Goals as goal
 
 pub returns : goal.returns
 returns c =
-    record { session = (_, (_, session_made (λ answers. served_of (vec_items answers)) office_meaning (stack_state c.office-stack-stack.result) (office_over _ _ c.args.plots.now c.args.files.now) (calls_of 320 c.args.calls.now) c.session.result c.office-stack-stack.ensures.first c.office-stack-stack.ensures.sound c.session.ensures)); examples = worked_examples }
+    record { session = (_, (_, session_made (λ answers. served_of (vec_items answers)) office_meaning (stack_state c.office_stack-stack.result) (office_over _ _ c.args.plots.now c.args.files.now) (calls_of 320 c.args.calls.now) c.session.result c.office_stack-stack.ensures.first c.office_stack-stack.ensures.sound c.session.ensures)); examples = worked_examples }

@@ -7,4 +7,4 @@ use Rattle.sessions.proofs.session.plots_session.Goals as goal
 
 pub returns : goal.returns
 returns c =
-    (_, (_, session_made (λ answers. served_of (vec_items answers)) plots_meaning (plots_state c.plots-stack-stack.result) (plots_over _ _ c.args.plots.now c.args.files.now) (calls_of 320 c.args.calls.now) c.session.result c.plots-stack-stack.ensures.first c.plots-stack-stack.ensures.sound c.session.ensures))
+    (_, (_, session_made (λ answers. served_of (vec_items answers)) plots_meaning (plots_state c.plots_stack-stack.result) (plots_over _ _ c.args.plots.now c.args.files.now) (calls_of 320 c.args.calls.now) c.session.result c.plots_stack-stack.ensures.first c.plots_stack-stack.ensures.sound c.session.ensures))

@@ -5,8 +5,8 @@ use Rattle.text.proofs.Trips.{hex_round_trip}
 use Rattle.text.proofs.hex.push_hex.Goals as goal
 use Rattle.text.specs.Hex.{hex_text}
 
-pub returns-in-err-reserve : goal.returns-in-err-reserve
-returns-in-err-reserve c = search (rules, kept_at_err, hex_round_trip)
+pub returns-in_err-reserve : goal.returns-in_err-reserve
+returns-in_err-reserve c = search (rules, kept_at_err, hex_round_trip)
 
 pub loop-byte-preserved : goal.loop-byte-preserved
 loop-byte-preserved c = search (rules, at_drop_more hex_text, append_assoc)

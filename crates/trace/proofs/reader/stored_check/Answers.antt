@@ -4,4 +4,4 @@ use Rattle.trace.proofs.reader.stored_check.Goals as goal
 
 pub returns : goal.returns
 returns c =
-    c.from-be-bytes.ensures ∙ number_part 510 c.args.bytes.now c.field.result (omega arith) c.field.ensures
+    c.from_be_bytes.ensures ∙ number_part 510 c.args.bytes.now c.field.result (omega arith) c.field.ensures

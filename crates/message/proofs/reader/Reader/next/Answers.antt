@@ -13,11 +13,11 @@ returns-then-self c =
     let e = sym (ap (step r.at r.number) none) in
     record { answer = ap next_answer e; after = ap (λ s. moved_by s r) e }
 
-pub returns-in-err-step-at : goal.returns-in-err-step-at
-returns-in-err-step-at c =
+pub returns-in_err-step_at : goal.returns-in_err-step_at
+returns-in_err-step_at c =
     let r = c.args.self.now in
-    let p = err_from_is_err_and c.from-residual.result c.from-residual.ensures.1 in
-    let e = c.in-err-step-at.ensures ∙ ap (step r.at r.number) (take_rest r.datagram.now r.at) in
+    let p = err_from_is_err_and c.from_residual.result c.from_residual.ensures.1 in
+    let e = c.in_err-step_at.ensures ∙ ap (step r.at r.number) (take_rest r.datagram.now r.at) in
     record { answer = rw (p.1, p.2) (ap next_answer e); after = ap (λ s. moved_by s r) e }
 
 pub returns-in-None : goal.returns-in-None

@@ -7,12 +7,12 @@ use Rattle.message.proofs.reader.Reader.payload.Goals as goal
 
 -- what `next` found
 _option : (c : goal.In-Some) → Drew c.loop-option.rest c.next.new.self (read_option c.in-Some._option)
-_option c = turn c.loop-option.rest c.next.new.self _ (ap (λ o. read_answer (Ok o)) (sym c.in-Some.is) ∙ c.in-ok--option.ensures.answer) c.next.ensures.after
+_option c = turn c.loop-option.rest c.next.new.self _ (ap (λ o. read_answer (Ok o)) (sym c.in-Some.is) ∙ c.in_ok-_option.ensures.answer) c.next.ensures.after
 
-pub returns-in-err--option : goal.returns-in-err--option
-returns-in-err--option c =
-    let p = err_from_is_err_and c.from-residual.result c.from-residual.ensures.1 in
-    let f = turn c.loop-option.rest c.next.new.self _ c.in-err--option.ensures.answer c.next.ensures.after in
+pub returns-in_err-_option : goal.returns-in_err-_option
+returns-in_err-_option c =
+    let p = err_from_is_err_and c.from_residual.result c.from_residual.ensures.1 in
+    let f = turn c.loop-option.rest c.next.new.self _ c.in_err-_option.ensures.answer c.next.ensures.after in
     rw (p.1, p.2) (sym c.loop-option.invariant.1 ∙ ap (payload_after c.args.self.now.datagram.now) f.1 ∙ ap Err (sym f.2))
 
 pub loop-option-smaller : goal.loop-option-smaller
@@ -22,7 +22,7 @@ pub loop-option-preserved : goal.loop-option-preserved
 loop-option-preserved c =
     let o = _option c in
     let d = c.args.self.now.datagram.now in
-    (o.same ∙ c.loop-option.invariant.0, payload_more d (read_option c.in-Some.-option) (options_of c.next.new.self) ∙ ap (payload_after d) (sym o.left) ∙ c.loop-option.invariant.1)
+    (o.same ∙ c.loop-option.invariant.0, payload_more d (read_option c.in-Some._option) (options_of c.next.new.self) ∙ ap (payload_after d) (sym o.left) ∙ c.loop-option.invariant.1)
 
 pub returns : goal.returns
 returns c =

@@ -12,9 +12,9 @@ returns c =
     let room = c.room-room.ensures in
     let within : w.len ≤ length w.buffer = omega (arith, room) in
     let e = option_done w (state_of c.lay.new.self) (state_of c.lay_further.new.self) (state_of c.lay_further-2.new.self) (state_of c.lay-2.new.self) o _ within
-    (λ i. c.nibble_of.ensures i * 16 + c.nibble-of-2.ensures i) c.lay.ensures.state c.lay_further.ensures.state c.lay_further-2.ensures.state c.lay-2.ensures.state in
+    (λ i. c.nibble_of.ensures i * 16 + c.nibble_of-2.ensures i) c.lay.ensures.state c.lay_further.ensures.state c.lay_further-2.ensures.state c.lay-2.ensures.state in
     record {
       lender = c.lay-2.ensures.lender ∙ c.lay_further-2.ensures.lender ∙ c.lay_further.ensures.lender ∙ c.lay.ensures.lender;
-      answer = option_accepted w o c.in-ok-following.ensures (search rules) (omega (arith, room, size)) (omega (arith, room, size));
+      answer = option_accepted w o c.in_ok-following.ensures (search rules) (omega (arith, room, size)) (omega (arith, room, size));
       state = ap (λ v. let u : State = record { buffer = v.buffer; len = v.len; number = o.number; stage = v.stage } in u) e;
     }

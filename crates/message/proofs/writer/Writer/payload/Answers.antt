@@ -3,8 +3,8 @@ use Rattle.message.specs.Writing.{State, state_of}
 use Rattle.message.proofs.Laid.{payload_accepted, payload_empty, payload_some, payload_size, stage_some}
 use Rattle.message.proofs.writer.Writer.payload.Goals as goal
 
-pub returns-then-is-empty : goal.returns-then-is-empty
-returns-then-is-empty c =
+pub returns-then-is_empty : goal.returns-then-is_empty
+returns-then-is_empty c =
     let p = payload_empty (state_of c.args.self.now) c.args.bytes.now (search rules) in
     record { lender = refl; answer = p.0; state = p.1 }
 

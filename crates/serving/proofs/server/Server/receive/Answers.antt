@@ -13,7 +13,7 @@ returns-in-Reply g c =
     let after = c.arrive-outcome.new.buffer in
     let a = read_off _ c.arrive-outcome.result.answer _ after c.arrive-outcome.ensures.answer c.arrive-outcome.ensures.buffer in
     record {
-      answer = ap Reply (c.reply-bytes.ensures ∙ ap (λ n. take n after) (sub-zero c.in-Reply.n)) ∙ ap (λ r. answer_in r after) (sym c.in-Reply.is) ∙ a;
+      answer = ap Reply (c.reply_bytes.ensures ∙ ap (λ n. take n after) (sub-zero c.in-Reply.n)) ∙ ap (λ r. answer_in r after) (sym c.in-Reply.is) ∙ a;
       next = c.arrive-outcome.ensures.next;
     }
 

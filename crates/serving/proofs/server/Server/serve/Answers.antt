@@ -12,9 +12,9 @@ loop-call-preserved g c =
     let w = view m g.R.Resource.state c.call.new.self in
     let cs = c.args.calls.now in
     let lt = c.loop-call-test.true in (
-      run_more m cs c.loop-call.call-index _ lt v w c.call.ensures.next (vec_items c.loop-call.answers) _ c.call.result c.push-reserved.ensures.items c.call.ensures.answer ∙ c.loop-call.invariant.0,
+      run_more m cs c.loop-call.call-index _ lt v w c.call.ensures.next (vec_items c.loop-call.answers) _ c.call.result c.push_reserved.ensures.items c.call.ensures.answer ∙ c.loop-call.invariant.0,
       end_more m cs c.loop-call.call-index _ lt v w c.call.ensures.next ∙ c.loop-call.invariant.1,
-      c.push-reserved.ensures.len ∙ ap (λ n. n + 1) c.loop-call.invariant.2,
+      c.push_reserved.ensures.len ∙ ap (λ n. n + 1) c.loop-call.invariant.2,
       omega (arith, c.loop-call.invariant.3),
     )
 
