@@ -1,16 +1,16 @@
 -- A cache keeps the meaning over whatever keeps it.
-use Rattle.std.proofs.Common.{◌≡◌, ℕ, zero, suc, ◌+◌, ◌-◌, ◌*◌, ◌/◌, ◌<◌, ◌≤◌, min, Bool, true, false, cond, ◌&&◌, ◌||◌, eqb, ltb, leb, List, [], ◌∷◌, set, replicate, Decides, sym, refl, ap, ◌∙◌, subst, ⊎_elim, arith}
+use Rattle.std.proofs.Common.{◌≡◌, ℕ, zero, suc, Bool, true, false, cond, ◌&&◌, ltb, leb, List, [], ◌∷◌, replicate, Decides, sym, refl, ap, ◌∙◌, subst, ⊎_elim, arith}
 use Rattle.std.specs.List.{AllByRecursion as All}
 use Rattle.std.specs.Str.{bytes_eq}
-use Rattle.std.proofs.ByRecursion.{All-set, All-weaker}
+use Rattle.std.proofs.ByRecursion.{All-set}
 use Rattle.std.proofs.lemmas.Slice.Eq.{bytes_eq-Decides}
-use Rattle.std.proofs.lemmas.Bool.{both_ways, and_parts, or_cases, eqb-true, leb-true, ltb-true, cond_both, true≢false, false≢true}
+use Rattle.std.proofs.lemmas.Bool.{both_ways, and_parts, or_cases, leb-true, ltb-true, cond_both, false≢true}
 use Rattle.register.specs.declared.values.ReadCode.{ReadCode}
 use Rattle.register.specs.declared.values.ReadCode.TheVariants.{Content, NotFound}
 use Rattle.register.specs.Values.{Path, same_path, IsMoment, Shown, Read, IsBody, IsRead}
 use Rattle.register.specs.Meaning.{TrueAge, Meaning, Laws}
 use Rattle.register.specs.Cached.{Entry, Cached, answers_at, hit, from_entries, from_entry, entry_place, is_content, kept_after, no_entry, Fresh, cached}
-use Rattle.register.proofs.Conds.{cond_two, cond_one, Zero}
+use Rattle.register.proofs.Conds.{cond_one, Zero}
 
 pub all_replicate : {X : Type 0} (P : X → Type 0) (n : ℕ) (x : X) → P x → All P (replicate n x)
 all_replicate P zero x p = tt

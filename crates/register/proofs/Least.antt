@@ -1,9 +1,9 @@
 -- The first best place, as a loop finds it, is the first of those with the least number.
-use Rattle.std.proofs.Common.{◌≡◌, ℕ, zero, suc, ◌+◌, ◌<◌, ◌≤◌, min, Bool, true, false, cond, eqb, ltb, List, [], ◌∷◌, map, length, get_or, sym, refl, ap, ◌∙◌, subst, add-one, arith}
+use Rattle.std.proofs.Common.{◌≡◌, ℕ, zero, suc, ◌+◌, ◌<◌, ◌≤◌, Bool, true, false, eqb, ltb, List, [], ◌∷◌, map, length, get_or, sym, refl, arith}
 use Rattle.std.specs.List.{IsFirstBest}
 use Rattle.std.proofs.lemmas.List.{get_or-map, length-map}
 use Rattle.std.proofs.lemmas.Bool.{ltb-true, ltb-false, eq-eqb, ne_eqb, cond-true, cond-false}
-use Rattle.register.specs.Places.{first, least_from, least, place_in}
+use Rattle.register.specs.Places.{first, least_from, place_in}
 
 pub first_at : (p : ℕ → Bool) (xs : List ℕ) (b : ℕ) → b < length xs → p (get_or xs b 0) ≡ true → ((k : ℕ) → k < b → p (get_or xs k 0) ≡ false) → b ≡ first p xs
 first_at p [] b h t n = absurd (omega arith)

@@ -3,7 +3,7 @@ use Rattle.std.specs.Prelude.{◌≡◌, ℕ, ◌+◌, ◌-◌, ◌*◌, ◌/◌
 use Rattle.std.specs.List.{AllByRecursion as All}
 use Rattle.register.specs.declared.values.ReadCode.{ReadCode}
 use Rattle.register.specs.declared.values.ReadCode.TheVariants.{Content, NotFound}
-use Rattle.register.specs.Values.{Bytes, Path, same_path, IsMoment, Change, Shown, Read, IsBody, nothing}
+use Rattle.register.specs.Values.{Bytes, Path, same_path, IsMoment, Shown, Read, IsBody, nothing}
 use Rattle.register.specs.Meaning.{Meaning}
 use Rattle.register.specs.Places.{first, place_in}
 

@@ -1,5 +1,5 @@
 -- The values of the code as lists of bytes and numbers.
-use Rattle.std.specs.Prelude.{ℕ, List, ◌∷◌, map, take}
+use Rattle.std.specs.Prelude.{ℕ, ◌∷◌, map, take}
 use Rattle.register.specs.declared.bytes.Bytes.{Bytes}
 use Rattle.register.specs.declared.path.Segment.{Segment}
 use Rattle.register.specs.declared.path.Path.{Path}

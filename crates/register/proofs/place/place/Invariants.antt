@@ -1,4 +1,4 @@
-use Rattle.std.proofs.Common.{◌≡◌, ◌<◌, ◌≤◌, ltb, length}
+use Rattle.std.proofs.Common.{◌≡◌, ltb, length}
 use Rattle.std.specs.List.{IsFirstBest}
 use Rattle.register.proofs.place.place.Given as goal
 
