@@ -1,13 +1,12 @@
 -- What is written is read again, and what is read is what would be written.
-use Rattle.std.proofs.Common.{◌≡◌, ℕ, zero, suc, ◌+◌, ◌-◌, ◌*◌, ◌/◌, ◌%◌, ◌<◌, ◌≤◌, Bool, true, false, cond, eqb, ltb, leb, List, [], ◌∷◌, ◌++◌, map, length, get_or, take, drop, sym, refl, ap, ◌∙◌, subst, ⊎_elim, append_assoc, append-nil, add-zero, arith, length-append, length-drop, take-append-drop, length-take-le, get_or-drop}
+use Rattle.std.proofs.Common.{◌≡◌, ℕ, zero, suc, ◌+◌, ◌-◌, ◌*◌, ◌/◌, ◌%◌, ◌<◌, ◌≤◌, true, false, cond, eqb, ltb, List, [], ◌∷◌, ◌++◌, map, length, get_or, take, drop, sym, refl, ap, ◌∙◌, subst, ⊎_elim, append_assoc, add-zero, arith, length-append, length-drop, take-append-drop, length-take-le, get_or-drop}
 use Rattle.std.proofs.lemmas.Bool.Decides.{nat_tests}
-use Rattle.std.proofs.lemmas.Bool.{cases_Bool, eqb-true, ne_eqb, eq-eqb, lt-ltb, le-ltb, cases_lt, cases_eq}
-use Rattle.std.proofs.lemmas.List.{take_at, drop_at, drop-drop, take_all}
+use Rattle.std.proofs.lemmas.Bool.{cases_Bool, eqb-true, ne_eqb, lt-ltb, le-ltb, cases_lt, cases_eq}
+use Rattle.std.proofs.lemmas.List.{take_at, drop_at, drop-drop}
 use Rattle.std.proofs.lemmas.Nat.{div-mul-add, mod-mul-add}
-use Rattle.message.specs.Options.{ReadOption, kind_of, extension_size, extended, Step, fault, closed, item, opened, step, OptionList, broken, ended, more, onward, walk, payload_of}
+use Rattle.message.specs.Options.{ReadOption, kind_of, extension_size, extended, Step, fault, closed, item, opened, step, ended, more, onward, walk, payload_of}
 use Rattle.message.specs.Encoding.{Field, nibble, further, option_bytes, options_bytes, payload_bytes}
 use Rattle.message.specs.Message.{field_in}
-use Rattle.message.specs.declared.fault.OptionFault.{OptionFault}
 use Rattle.message.specs.declared.fault.OptionFault.TheVariants.{NoPayload}
 use Rattle.message.proofs.Opened.{Sound, opened_item, Came, opened_came, never, never_fault}
 use Rattle.message.proofs.Walks.{Walk, stop, draw}

@@ -1,7 +1,7 @@
 -- What the definitions of options mean.
-use Rattle.std.proofs.Common.{◌≡◌, ℕ, zero, suc, ◌+◌, ◌-◌, ◌/◌, ◌%◌, ◌<◌, ◌≤◌, Bool, true, false, cond, ◌||◌, eqb, ltb, List, [], ◌∷◌, length, take, drop, sym, refl, ap, ◌∙◌, subst, ⊎_elim, arith, length-drop, length-take-le}
-use Rattle.std.proofs.lemmas.List.{drop-drop, drop_all}
-use Rattle.std.proofs.lemmas.Bool.{cases_Bool, cases_eq, cases_lt, eq-eqb, ne_eqb, ltb-false}
+use Rattle.std.proofs.Common.{◌≡◌, ℕ, suc, ◌+◌, ◌-◌, ◌/◌, ◌%◌, ◌≤◌, true, false, cond, eqb, ltb, List, [], ◌∷◌, length, take, drop, sym, refl, ap, ◌∙◌, ⊎_elim, arith, length-drop, length-take-le}
+use Rattle.std.proofs.lemmas.List.{drop-drop}
+use Rattle.std.proofs.lemmas.Bool.{cases_Bool, cases_eq, eq-eqb, ne_eqb}
 use Rattle.std.proofs.lemmas.Bool.Decides.{nat_tests}
 use Rattle.message.specs.declared.fault.OptionFault.{OptionFault}
 use Rattle.message.specs.declared.fault.OptionFault.TheVariants.{Truncated, NoPayload}
@@ -9,14 +9,14 @@ use Rattle.message.specs.declared.fault.MessageFault.{MessageFault}
 use Rattle.message.specs.declared.fault.MessageFault.TheVariants.{TokenTruncated, InOption}
 use Rattle.message.specs.declared.fault.Rejection.{Rejection}
 use Rattle.message.specs.declared.fault.Rejection.TheVariants.{TooLong, Fault}
-use Rattle.message.specs.Header.{Head, Opening, rejected, opens, framed, header, opening}
-use Rattle.message.specs.Options.{ReadOption, kind_by, kind_of, extended, extension_size, Step, fault, closed, item, opened, step, OptionList, broken, ended, more, onward, walk, options_from}
+use Rattle.message.specs.Header.{Head, Opening, rejected, opens, header, opening}
+use Rattle.message.specs.Options.{ReadOption, kind_by, kind_of, extended, extension_size, fault, closed, item, opened, step, OptionList, broken, ended, options_from}
 use Rattle.message.specs.Encoding.{encode}
-use Rattle.message.specs.Message.{Parsed, refused, message, closing, inside, parse}
-use Rattle.transcribe.specs.Theorems.{Bytes, RoundTrip, used, KindsAfter, InPlace, OptionLaws}
+use Rattle.message.specs.Message.{refused, closing, inside, parse}
+use Rattle.transcribe.specs.Theorems.{RoundTrip, used, KindsAfter, InPlace, OptionLaws}
 use Rattle.message.proofs.Opened.{opened_came, never, never_fault}
 use Rattle.message.proofs.Walks.{step_onward, walk_enough, Walk, stop, fail, draw, pass, walked}
-use Rattle.transcribe.proofs.Round.{parse_encode, encode_parse, same_message, no_opens, Framed, framed_read}
+use Rattle.transcribe.proofs.Round.{parse_encode, encode_parse, same_message, no_opens, framed_read}
 
 -- what one step gives
 record Shape (at before : ℕ) (rest : List ℕ) (o : ReadOption) (after : ℕ) : Type 0 where

@@ -1,20 +1,20 @@
 -- A message that is written is read again, and a datagram that is read is what would be written.
-use Rattle.std.proofs.Common.{◌≡◌, ℕ, ◌+◌, ◌-◌, ◌*◌, ◌/◌, ◌%◌, ◌<◌, ◌≤◌, false, cond, eqb, ltb, List, [], ◌∷◌, ◌++◌, map, length, get_or, take, drop, sym, refl, ap, ◌∙◌, subst, ⊎_elim, arith, length-append, take-append-drop, length-take-le}
+use Rattle.std.proofs.Common.{◌≡◌, ℕ, ◌+◌, ◌*◌, ◌/◌, ◌%◌, ◌<◌, ◌≤◌, false, cond, ltb, List, [], ◌∷◌, ◌++◌, map, length, get_or, take, drop, sym, refl, ap, ◌∙◌, subst, ⊎_elim, arith, length-append, take-append-drop, length-take-le}
 use Rattle.std.proofs.lemmas.Bool.Decides.{nat_tests}
 use Rattle.std.proofs.lemmas.Bool.{cases_Bool, ltb-false, le-ltb}
-use Rattle.std.proofs.lemmas.List.{take_at, drop_at, drop-drop, take_all}
+use Rattle.std.proofs.lemmas.List.{take_at, drop_at, drop-drop}
 use Rattle.std.proofs.lemmas.Nat.{div-mul-add, mod-mul-add}
 use Rattle.message.specs.declared.header.MessageType.{MessageType}
 use Rattle.message.specs.declared.header.MessageType.TheVariants.{Con, Non, Ack, Rst}
 use Rattle.message.specs.declared.fault.Rejection.{Rejection}
 use Rattle.message.specs.declared.fault.Rejection.TheVariants.{TooLong}
-use Rattle.message.specs.Header.{Head, type_bits, type_of, Opening, rejected, opens, framed, header, opening}
-use Rattle.message.specs.Options.{ReadOption, OptionList, broken, ended, options_from, payload_of}
+use Rattle.message.specs.Header.{Head, type_bits, type_of, Opening, rejected, opens, framed, header}
+use Rattle.message.specs.Options.{OptionList, broken, ended, options_from, payload_of}
 use Rattle.message.specs.Encoding.{Field, Message, option_bytes, options_bytes, payload_bytes, head_bytes, encode}
-use Rattle.message.specs.Message.{Parsed, refused, message, field_in, closing, inside, parse, Rising, WellFormed}
+use Rattle.message.specs.Message.{refused, message, field_in, closing, inside, parse, Rising, WellFormed}
 use Rattle.message.proofs.Heads.{framed_opens}
 use Rattle.message.proofs.Walks.{walked}
-use Rattle.transcribe.proofs.Codec.{Writable, items_of, Walked, walk_written, walk_read, payload_shut, length_option}
+use Rattle.transcribe.proofs.Codec.{Writable, items_of, walk_written, walk_read, payload_shut, length_option}
 
 bits_below : (t : MessageType) → type_bits t < 4
 bits_below Con = omega arith

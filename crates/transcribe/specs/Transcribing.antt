@@ -4,7 +4,7 @@ use Rattle.message.specs.declared.fault.Rejection.{Rejection}
 use Rattle.message.specs.declared.writer.WriteError.TheVariants.{NoRoom}
 use Rattle.transcribe.specs.declared.TranscribeError.{TranscribeError}
 use Rattle.transcribe.specs.declared.TranscribeError.TheVariants.{Rejected, Unwritten}
-use Rattle.message.specs.Options.{ReadOption, OptionList, broken, ended}
+use Rattle.message.specs.Options.{OptionList, broken, ended}
 use Rattle.message.specs.Encoding.{Field, Message}
 use Rattle.message.specs.Message.{Parsed, refused, message, parse, field_in}
 use Rattle.message.specs.Writing.{State, laid, fits, option_answer, option_added}

@@ -71,9 +71,9 @@ fn copy_options(reader: &mut Reader<'_>, writer: &mut Writer<'_>) -> Result<(), 
 
 // Writes all the fields of a datagram that is a message; the writer is fresh and has room.
 fn copy_fields(datagram: &[u8], writer: &mut Writer<'_>) -> Result<(), TranscribeError>
-    requires message { IsMessage datagram.now }
-    requires writer_value { state_of writer.old ≡ fresh writer.old.out.now }
-    requires datagram_in_bounds { length datagram.now ≤ length writer.old.out.now }
+    requires is_message { IsMessage datagram.now }
+    requires writer_is_fresh { state_of writer.old ≡ fresh writer.old.out.now }
+    requires writer_has_room { length datagram.now ≤ length writer.old.out.now }
     ensures answer { result ≡ Ok tt }
     ensures lender { writer.new.out.ghost_name ≡ writer.old.out.ghost_name }
     ensures buffer { writer.new.out.now ≡ laid writer.old.out.now 0 datagram.now }

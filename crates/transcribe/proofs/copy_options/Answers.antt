@@ -1,4 +1,4 @@
-use Rattle.std.proofs.Common.{◌≡◌, length, Ok, sym, refl, ap, ◌∙◌, subst, arith}
+use Rattle.std.proofs.Common.{length, Ok, sym, refl, ap, ◌∙◌, subst, arith}
 use Rattle.message.specs.Reading.{options_of, read_answer}
 use Rattle.message.specs.Writing.{state_of, option_added}
 use Rattle.transcribe.specs.Transcribing.{Copyable, Copied}

@@ -1,8 +1,8 @@
-use Rattle.std.proofs.Common.{◌≡◌, ap, ◌∙◌, arith, rules}
+use Rattle.std.proofs.Common.{ap, ◌∙◌, rules}
 use Rattle.std.proofs.lemmas.Result.{err_from_is_err_and}
 use Rattle.message.specs.Writing.{laid}
 use Rattle.transcribe.proofs.Laws.{round_trip, option_laws}
-use Rattle.transcribe.proofs.Copying.{Outcome, refused_outcome, full_outcome, written_outcome}
+use Rattle.transcribe.proofs.Copying.{refused_outcome, full_outcome, written_outcome}
 use Rattle.transcribe.proofs.transcribe.Goals as goal
 
 pub returns-in_err-validate : goal.returns-in_err-validate
