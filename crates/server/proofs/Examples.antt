@@ -8,7 +8,7 @@ use Rattle.server.specs.Replies.{reply_with}
 use Rattle.server.specs.Requests.{coap}
 use Rattle.server.specs.Serving.{answer, served}
 use Rattle.server.specs.Ledger.{Grouped, calls, admitted, Premises}
-use Rattle.server.specs.Promises.{Promises, register_at, requests, done_requests}
+use Rattle.server.specs.Promises.{Promises, register_at, done_requests}
 use Rattle.register.proofs.Counters.{counter_laws}
 use Rattle.server.proofs.Framed.{coap_framing}
 use Rattle.server.proofs.Keeping.{each_change_is_once}

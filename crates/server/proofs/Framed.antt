@@ -7,12 +7,11 @@ use Rattle.message.specs.declared.fault.Rejection.TheVariants.{TooLong, NotCoap,
 use Rattle.message.specs.Header.{Head, Opening, rejected, opens, framed, header, opening}
 use Rattle.message.specs.Options.{ReadOption, OptionList, broken, ended, options_from, payload_of}
 use Rattle.message.specs.Encoding.{Field, options_bytes, payload_bytes}
-use Rattle.message.specs.Message.{message, closing, inside, Rising}
+use Rattle.message.specs.Message.{closing, inside, Rising}
 use Rattle.transcribe.proofs.Round.{written_read}
 use Rattle.register.specs.declared.values.ReadCode.{ReadCode}
 use Rattle.register.specs.declared.values.ReadCode.TheVariants.{Content, NotFound}
 use Rattle.register.specs.declared.values.ChangeCode.{ChangeCode}
-use Rattle.register.specs.declared.values.ChangeCode.TheVariants as code
 use Rattle.register.specs.Values.{Bytes, Path, IsBody, code_byte}
 use Rattle.register.proofs.Conds.{cond_one}
 use Rattle.server.specs.Calls.{Answer, Reply, Silent, Refused, Tallied}

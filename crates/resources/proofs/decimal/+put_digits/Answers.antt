@@ -20,8 +20,8 @@ returns t c =
       | else-n-lt10 w ↦ search (rules, length_step, last_digit)
     ]
 
-pub overflow-add-result : goal.overflow-add-result
-overflow-add-result t c =
+pub overflow_add-result : goal.overflow_add-result
+overflow_add-result t c =
     elim c.if-n-lt10.branch [
       | then-n-lt10 w ↦ search rules
       | else-n-lt10 w ↦ search (rules, ten_digits)

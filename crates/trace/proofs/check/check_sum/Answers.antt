@@ -4,8 +4,8 @@ use Rattle.std.proofs.lemmas.List.{at_drop_more, at_drop_all}
 use Rattle.trace.specs.Blocks.{weighted}
 use Rattle.trace.proofs.check.check_sum.Goals as goal
 
-pub overflow-add-sum-in-loop-i : goal.overflow-add-sum-in-loop-i
-overflow-add-sum-in-loop-i c = let b = mul-le c.from.result (c.loop-i.i + 1) 255 510 (search rules) (search rules) in omega arith
+pub overflow_add-sum-in-loop-i : goal.overflow_add-sum-in-loop-i
+overflow_add-sum-in-loop-i c = let b = mul-le c.from.result (c.loop-i.i + 1) 255 510 (search rules) (search rules) in omega arith
 
 pub loop-i-preserved : goal.loop-i-preserved
 loop-i-preserved c =

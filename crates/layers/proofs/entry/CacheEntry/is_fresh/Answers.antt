@@ -6,10 +6,10 @@ use Rattle.layers.proofs.entry.CacheEntry.is_fresh.Goals as goal
 
 pub returns-then-self-ms : goal.returns-then-self-ms
 returns-then-self-ms c =
-    let same = same_path_is (segments_of c.args.self.now.path) (segments_of c.args.path.now) c.eq.result c.eq.ensures in
+    let same = same_path_is (segments_of c.args.self.now.path) (segments_of c.args.path.now) c.eq.result c.eq.ensures.decides in
     rw (same ∙ c.if-eq.true, le-leb c.args.self.now.stored c.args.ms c.if-self-ms.true)
 
 pub returns-else-eq : goal.returns-else-eq
 returns-else-eq c =
-    let same = same_path_is (segments_of c.args.self.now.path) (segments_of c.args.path.now) c.eq.result c.eq.ensures in
+    let same = same_path_is (segments_of c.args.self.now.path) (segments_of c.args.path.now) c.eq.result c.eq.ensures.decides in
     rw (same, c.if-eq.false)
