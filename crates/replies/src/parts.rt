@@ -34,8 +34,8 @@ fn payload_len(body: &[u8]) -> usize
 impl Parts<'_, '_> {
     // How many bytes the message has.
     fn len(&self) -> usize
-        requires token_len_bound { length self.now.token.now ≤ 8 }
-        requires body_len_bound { length self.now.body.now ≤ 256 }
+        requires short_token { length self.now.token.now ≤ 8 }
+        requires short_body { length self.now.body.now ≤ 256 }
         ensures { result ≡ length (encode (message_of self.now)) }
     {
         4 + self.token.len() + option_len(self.max_age) + payload_len(self.body)
@@ -44,9 +44,9 @@ impl Parts<'_, '_> {
     // Writes the whole message; its token is short enough, and the writer is fresh and has room.
     fn write_fields(&self, writer: &mut Writer<'_>) -> Result<(), WriteError>
         requires sendable { Sendable (message_of self.now) }
-        requires token_len_bound { length self.now.token.now ≤ 8 }
-        requires writer_value { state_of writer.old ≡ fresh writer.old.out.now }
-        requires self_in_bounds { length (encode (message_of self.now)) ≤ length writer.old.out.now }
+        requires short_token { length self.now.token.now ≤ 8 }
+        requires fresh_writer { state_of writer.old ≡ fresh writer.old.out.now }
+        requires has_room { length (encode (message_of self.now)) ≤ length writer.old.out.now }
         ensures answer { result ≡ Ok tt }
         ensures lender { writer.new.out.ghost_name ≡ writer.old.out.ghost_name }
         ensures buffer { writer.new.out.now ≡ laid writer.old.out.now 0 (encode (message_of self.now)) }

@@ -46,8 +46,8 @@ impl Record {
 
     // The record of the reply that a peer got at this time to a change with this Message ID.
     pub(crate) fn new(peer: u32, id: u16, ms: u64, reply: &[u8]) -> Record
-        requires ms_bound { ms < 2 ^ 48 }
-        requires reply_len_bound { length reply.now ≤ 35 }
+        requires in_range { ms < 2 ^ 48 }
+        requires short_reply { length reply.now ≤ 35 }
         ensures { record_of result ≡ record_for peer id ms reply.now }
     {
         Record {

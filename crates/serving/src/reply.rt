@@ -42,8 +42,8 @@ fn reset(exchange: &Exchange<'_>, silence: Silence, buffer: &mut [u8]) -> Answer
 
 // An error by its code alone.
 fn fail(exchange: &Exchange<'_>, code: ChangeCode, buffer: &mut [u8]) -> Answer
-    requires token_len_bound { length exchange.now.token.now ≤ 8 }
-    requires in_bounds { 320 ≤ length buffer.old }
+    requires short_token { length exchange.now.token.now ≤ 8 }
+    requires has_room { 320 ≤ length buffer.old }
     ensures answer { Gives (Replied (failing_to (exchange_as exchange.now) (code_byte code))) result }
     ensures buffer { buffer.new ≡ buffer_with (Replied (failing_to (exchange_as exchange.now) (code_byte code))) buffer.old }
 {

@@ -9,7 +9,7 @@ use Rattle.replies.proofs.parts.Parts.write_fields.Goals as goal
 pub returns-in_err-start : goal.returns-in_err-start
 returns-in_err-start c =
     let id : c.args.self.now.id < 65536 = search rules in
-    let k = writes (state_of c.args.writer.now) (message_of c.args.self.now) c.requires.2 (formed c.args.self.now c.requires.0 c.requires.1 id) c.requires.3 in
+    let k = writes (state_of c.args.writer.now) (message_of c.args.self.now) c.requires.fresh_writer (formed c.args.self.now c.requires.sendable c.requires.short_token id) c.requires.has_room in
     absurd (never_refused c.start.result _ _ c.start.ensures.answer k.start c.in_err-start.was)
 
 pub write_option-requires : goal.write_option-requires
@@ -17,7 +17,7 @@ write_option-requires c =
     let w = state_of c.args.writer.now in
     let m = message_of c.args.self.now in
     let id : c.args.self.now.id < 65536 = search rules in
-    let k = writes w m c.requires.2 (formed c.args.self.now c.requires.0 c.requires.1 id) c.requires.3 in
+    let k = writes w m c.requires.fresh_writer (formed c.args.self.now c.requires.sendable c.requires.short_token id) c.requires.has_room in
     let s = settled_ok c.start.result _ (started w m.head) w (state_of c.start.new.self) c.start.ensures.answer k.start c.start.ensures.state in
     subst (λ v. Accepted v m.options) (sym s) k.options
 
@@ -26,7 +26,7 @@ returns c =
     let w = state_of c.args.writer.now in
     let m = message_of c.args.self.now in
     let id : c.args.self.now.id < 65536 = search rules in
-    let k = writes w m c.requires.2 (formed c.args.self.now c.requires.0 c.requires.1 id) c.requires.3 in
+    let k = writes w m c.requires.fresh_writer (formed c.args.self.now c.requires.sendable c.requires.short_token id) c.requires.has_room in
     let s = settled_ok c.start.result _ (started w m.head) w (state_of c.start.new.self) c.start.ensures.answer k.start c.start.ensures.state in
     let v = state_of c.write_option.new.writer in
     let e : v ≡ options_added (started w m.head) m.options = c.write_option.ensures.state ∙ ap (λ u. options_added u m.options) s in
