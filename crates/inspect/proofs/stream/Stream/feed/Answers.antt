@@ -4,7 +4,7 @@ use Rattle.inspect.proofs.Feeding.{leads_all, leads_ended, leads_longer}
 use Rattle.inspect.proofs.Pieces.{fed_in_parts}
 use Rattle.inspect.proofs.Splitting.{split_at_line_feeds}
 use Rattle.inspect.proofs.stream.Stream.feed.Goals as goal
-use Rattle.inspect.proofs.stream.Stream.feed.Goals.{then-byte-eq-LINE-FEED+in_ok-end_line, else-byte-eq-LINE-FEED+in_ok-push}
+use Rattle.inspect.proofs.stream.Stream.feed.Goals.{then-byte-eq-LINE_FEED+in_ok-end_line, else-byte-eq-LINE_FEED+in_ok-push}
 
 pub returns-in_err-end_line : goal.returns-in_err-end_line
 returns-in_err-end_line c = search (rules, fed_in_parts, split_at_line_feeds)
@@ -14,13 +14,13 @@ returns-in_err-push c = search (rules, fed_in_parts, split_at_line_feeds)
 
 pub loop-byte-preserved : goal.loop-byte-preserved
 loop-byte-preserved c =
-    elim c.if-byte-eq-LINE-FEED.branch [
-      | then-byte-eq-LINE-FEED+in_ok-end_line w ↦
-          leads_ended c.loop-byte.invariant c.loop-byte-test.true w.if-byte-eq-LINE-FEED.true
+    elim c.if-byte-eq-LINE_FEED.branch [
+      | then-byte-eq-LINE_FEED+in_ok-end_line w ↦
+          leads_ended c.loop-byte.invariant c.loop-byte-test.true w.if-byte-eq-LINE_FEED.true
           (ap state_of w.self-is ∙ w.in_ok-end_line.ensures.state)
           (ap vec_items w.out-is ∙ w.in_ok-end_line.ensures.text)
-      | else-byte-eq-LINE-FEED+in_ok-push w ↦
-          leads_longer c.loop-byte.invariant c.loop-byte-test.true w.if-byte-eq-LINE-FEED.false
+      | else-byte-eq-LINE_FEED+in_ok-push w ↦
+          leads_longer c.loop-byte.invariant c.loop-byte-test.true w.if-byte-eq-LINE_FEED.false
           (ap state_of w.self-is ∙ (λ i. record { line = w.in_ok-push.ensures.items i; tally = c.loop-byte.self.tally }))
           (ap vec_items w.out-is)
     ]
