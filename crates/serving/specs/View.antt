@@ -15,7 +15,7 @@ use Rattle.server.specs.Ledger.{Grouped, calls, admitted, Premises}
 use Rattle.server.specs.Promises.{Promises, answer_at}
 use Rattle.calls.specs.Model.{counts_of, Gives, buffer_with}
 use Rattle.serving.specs.Records.{records_of, record_for, recorded_in}
-use Rattle.serving.specs.declared.server.Server.{Server}
+use Rattle.serving.specs.declared.state.Server.{Server}
 
 abbrev pub view : {R : Type 0} (m : Meaning) → (R → m.State) → Server R → serving.Server m.State
 view m state v = record { stack = state v.stack; last = v.last; accepted = v.accepted; records = records_of v.records; counts = counts_of v.counts }

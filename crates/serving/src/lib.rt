@@ -4,5 +4,5 @@
 mod record;
 mod reply;
 mod serve;
-pub mod server;
 pub mod session;
+pub mod state;

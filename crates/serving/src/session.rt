@@ -8,7 +8,7 @@ ghost use Rattle.calls.specs.Model.{call_of, calls_of, served_as, served_of};
 ghost use Rattle.serving.specs.View.{view};
 ghost use Rattle.serving.specs.Sessions.{KeepsAll, Session};
 
-use crate::server::Server;
+use crate::state::Server;
 use calls::answer::{Answer, Served};
 use calls::call::{Arrival, Call};
 use register::bytes::Bytes;

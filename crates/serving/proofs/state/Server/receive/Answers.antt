@@ -1,12 +1,9 @@
-use Rattle.std.proofs.Common.{◌≡◌, ◌-◌, take, sym, ap, ◌∙◌}
+use Rattle.std.proofs.Common.{take, sym, ap, ◌∙◌}
 use native.Mathlib.Nat.{sub-zero}
-use Rattle.server.specs.Calls.{Answer, Reply, Arrival}
-use Rattle.server.specs.Serving.{answer}
-use Rattle.server.specs.Requests.{coap}
+use Rattle.server.specs.Calls.{Reply}
 use Rattle.calls.specs.Model.{answer_in}
-use Rattle.serving.specs.View.{view}
 use Rattle.serving.proofs.Arriving.{read_off}
-use Rattle.serving.proofs.server.Server.receive.Goals as goal
+use Rattle.serving.proofs.state.Server.receive.Goals as goal
 
 pub returns-in-Reply : goal.returns-in-Reply
 returns-in-Reply g c =

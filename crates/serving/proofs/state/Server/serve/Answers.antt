@@ -1,9 +1,9 @@
-use Rattle.std.proofs.Common.{◌≡◌, ◌+◌, vec_items, sym, ap, ◌∙◌, arith}
+use Rattle.std.proofs.Common.{◌+◌, vec_items, sym, ap, ◌∙◌, arith}
 use Rattle.calls.specs.Model.{calls_of, served_of}
 use Rattle.serving.specs.View.{view}
 use Rattle.serving.proofs.Keeping.{keeps_all}
 use Rattle.serving.proofs.Sessions.{run_more, end_more, run_all, end_all}
-use Rattle.serving.proofs.server.Server.serve.Goals as goal
+use Rattle.serving.proofs.state.Server.serve.Goals as goal
 
 pub loop-call-preserved : goal.loop-call-preserved
 loop-call-preserved g c =

@@ -1,9 +1,9 @@
-use Rattle.std.proofs.Common.{◌≡◌, sym, ap, ◌∙◌}
+use Rattle.std.proofs.Common.{sym, ap, ◌∙◌}
 use Rattle.server.specs.Requests.{coap}
 use Rattle.server.specs.Serving.{answer, next}
 use Rattle.calls.specs.Model.{call_of}
 use Rattle.serving.specs.View.{view}
-use Rattle.serving.proofs.server.Server.call.Goals as goal
+use Rattle.serving.proofs.state.Server.call.Goals as goal
 
 pub returns-in-Arrival : goal.returns-in-Arrival
 returns-in-Arrival g c =

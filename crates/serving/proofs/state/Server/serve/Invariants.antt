@@ -1,9 +1,9 @@
-use Rattle.std.proofs.Common.{◌≡◌, ◌+◌, ◌-◌, ◌≤◌, ◌++◌, length, drop, vec_items, vec_len, vec_capacity}
+use Rattle.std.proofs.Common.{◌≡◌, ◌≤◌, ◌++◌, length, drop, vec_items, vec_len, vec_capacity}
 use Rattle.server.specs.Requests.{coap}
 use Rattle.server.specs.Serving.{run, end}
 use Rattle.calls.specs.Model.{calls_of, served_of}
 use Rattle.serving.specs.View.{view}
-use Rattle.serving.proofs.server.Server.serve.Given as goal
+use Rattle.serving.proofs.state.Server.serve.Given as goal
 
 -- what was answered and what is left give the whole, and there is room for what is left
 abbrev pub invariant-loop-call : goal.invariant-loop-call
