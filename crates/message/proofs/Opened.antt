@@ -1,9 +1,9 @@
 -- What an option byte and what follows it give where nothing is at fault.
-use Rattle.std.proofs.Common.{◌≡◌, ℕ, ◌+◌, ◌-◌, ◌*◌, ◌/◌, ◌%◌, ◌<◌, ◌≤◌, Bool, true, false, cond, eqb, List, [], ◌∷◌, ◌++◌, length, get_or, take, drop, sym, refl, ap, ◌∙◌, arith, length-drop, length-take-le}
+use Rattle.std.proofs.Common.{◌≡◌, ℕ, ◌+◌, ◌-◌, ◌/◌, ◌%◌, ◌<◌, ◌≤◌, false, eqb, List, [], ◌∷◌, length, get_or, take, drop, sym, refl, ◌∙◌, arith, length-drop, length-take-le}
 use Rattle.std.proofs.lemmas.List.{take_all}
 use Rattle.std.proofs.lemmas.Bool.{ne_eqb}
 use Rattle.message.specs.declared.fault.OptionFault.{OptionFault}
-use Rattle.message.specs.Options.{ReadOption, kind_of, extension_size, extended, Step, fault, closed, item, opened, step}
+use Rattle.message.specs.Options.{ReadOption, kind_of, extension_size, extended, fault, closed, item, opened, step}
 use Rattle.message.specs.Reading.{field_of, read_option}
 use Rattle.std.proofs.lemmas.Bool.Decides.{nat_tests}
 use Rattle.message.specs.declared.option.MessageOption.{MessageOption}

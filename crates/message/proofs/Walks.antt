@@ -1,5 +1,5 @@
 -- A walk over the options does not depend on its budget, once that is enough.
-use Rattle.std.proofs.Common.{◌≡◌, ℕ, zero, suc, ◌+◌, ◌-◌, ◌/◌, ◌%◌, ◌<◌, ◌≤◌, Bool, true, false, cond, eqb, List, [], ◌∷◌, ◌++◌, length, drop, Some, None, Ok, Err, Option, Result, sym, refl, ap, ◌∙◌, subst, ⊎_elim, append_assoc, append-nil, add-one, arith, length-drop}
+use Rattle.std.proofs.Common.{◌≡◌, ℕ, zero, suc, ◌+◌, ◌-◌, ◌/◌, ◌%◌, ◌<◌, ◌≤◌, cond, eqb, List, [], ◌∷◌, length, drop, Some, None, Ok, Err, Option, Result, sym, refl, ap, ◌∙◌, subst, ⊎_elim, add-one, arith, length-drop}
 use Rattle.std.proofs.lemmas.Bool.{cases_Bool}
 use Rattle.message.specs.Options.{ReadOption, Step, fault, closed, item, step, OptionList, broken, ended, more, onward, walk, options_from}
 use Rattle.message.specs.declared.fault.OptionFault.{OptionFault}
@@ -8,7 +8,7 @@ use Rattle.message.specs.declared.fault.MessageFault.{MessageFault}
 use Rattle.message.specs.declared.fault.MessageFault.TheVariants.{InOption}
 use Rattle.message.specs.declared.reader.Reader.{Reader}
 use Rattle.message.specs.Reading.{next_answer, step_of, options_of, moved_by, payload_after}
-use Rattle.message.proofs.Opened.{opened_came, Came, never, never_fault}
+use Rattle.message.proofs.Opened.{opened_came, never, never_fault}
 
 -- an option takes a byte at least, and ends within the datagram
 pub step_onward : (at before : ℕ) (rest : List ℕ) (o : ReadOption) (after : ℕ) → step at before rest ≡ item o after → (at < after) × (after ≤ at + length rest)

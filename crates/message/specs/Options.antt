@@ -1,5 +1,5 @@
 -- The options of a datagram: how each is coded, and of which kind it is.
-use Rattle.std.specs.Prelude.{ℕ, zero, suc, ◌+◌, ◌-◌, ◌*◌, ◌/◌, ◌%◌, Bool, cond, not, ◌&&◌, ◌||◌, List, [], ◌∷◌, ◌++◌, length, take, drop, ◌==◌, nat_le, nat_lt, slice_index}
+use Rattle.std.specs.Prelude.{ℕ, zero, suc, ◌+◌, ◌-◌, ◌*◌, ◌/◌, ◌%◌, Bool, cond, not, ◌&&◌, ◌||◌, List, [], ◌∷◌, length, take, drop, ◌==◌, nat_le, nat_lt, slice_index}
 use Rattle.message.specs.declared.fault.OptionFault.{OptionFault}
 use Rattle.message.specs.declared.fault.OptionFault.TheVariants.{ReservedNibble, Truncated, NumberTooHigh, NoPayload}
 

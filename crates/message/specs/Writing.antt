@@ -1,5 +1,5 @@
 -- What the writer does to its buffer, and when it refuses.
-use Rattle.std.specs.Prelude.{ℕ, ◌+◌, min, Bool, true, false, cond, not, ◌&&◌, ◌||◌, List, [], ◌∷◌, ◌++◌, length, take, drop, Ok, Err, Result, ◌==◌, nat_le, nat_lt}
+use Rattle.std.specs.Prelude.{ℕ, ◌+◌, Bool, cond, not, ◌&&◌, List, [], ◌∷◌, ◌++◌, length, take, drop, Ok, Err, Result, ◌==◌, nat_le, nat_lt}
 use Rattle.message.specs.declared.writer.WriteError.{WriteError}
 use Rattle.message.specs.declared.writer.WriteError.TheVariants.{OutOfOrder, NoRoom, TokenTooLong, EmptyMessage}
 use Rattle.message.specs.declared.writer.Stage.{Stage}

@@ -24,7 +24,7 @@ mod tests {
         assert_eq!(rt; header.kind, MessageType::Con);
         assert_eq!(rt; header.code.class(), 0);
         assert_eq!(rt; header.id, 4660);
-        assert_eq!(rt; header.token, &[0xA1]);
+        assert_eq!(rt; header.token, [0xA1].as_slice());
         for place in [6, 8] {
             match reader.next()? {
                 Some(MessageOption::Path(field)) => assert_eq!(rt; field.place, place),
@@ -85,9 +85,10 @@ mod tests {
         assert_eq!(rt; writer.len(), 13);
         assert_eq!(rt;
             &buffer[0..13],
-            &[
+            [
                 0x61, 0x45, 0x12, 0x34, 0xA1, 0xD1, 0x01, 0x3B, 0xFF, 0x61, 0x6E, 0x6E, 0x61,
             ]
+            .as_slice()
         );
         Ok(())
     }

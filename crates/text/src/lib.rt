@@ -15,7 +15,7 @@ mod tests {
     #[test]
     fn reads_digits_among_blanks(rt: HostRuntime) -> Result<(), Fail> {
         let bytes = read_hex(rt.alloc(), b" 4 1aF\r")?.ok_or("no bytes")?;
-        assert_eq!(rt; bytes.as_slice(), &[0x41, 0xaf]);
+        assert_eq!(rt; bytes.as_slice(), [0x41, 0xaf].as_slice());
         Ok(())
     }
 
@@ -34,7 +34,7 @@ mod tests {
     fn appends_hex(rt: HostRuntime) -> Result<(), Fail> {
         let mut out = Vec::from_slice(rt.alloc(), b"> ")?;
         push_hex(&mut out, &[0x0a, 0xff])?;
-        assert_eq!(rt; out.as_slice(), b"> 0AFF");
+        assert_eq!(rt; out.as_slice(), b"> 0AFF".as_slice());
         Ok(())
     }
 
@@ -45,7 +45,7 @@ mod tests {
             push_decimal(&mut out, n)?;
             out.push(b' ')?;
         }
-        assert_eq!(rt; out.as_slice(), b"0 65535 18446744073709551615 ");
+        assert_eq!(rt; out.as_slice(), b"0 65535 18446744073709551615 ".as_slice());
         Ok(())
     }
 }

@@ -1,4 +1,4 @@
-use Rattle.std.proofs.Common.{◌≡◌, ◌+◌, ◌-◌, ◌/◌, ◌%◌, refl, arith, rules}
+use Rattle.std.proofs.Common.{◌+◌, ◌/◌, ◌%◌, refl, arith, rules}
 use Rattle.std.proofs.lemmas.List.{take_rest}
 use Rattle.message.proofs.Opened.{opened_as}
 use Rattle.message.proofs.reader.option_at.Goals as goal

@@ -1,5 +1,5 @@
-use Rattle.std.proofs.Common.{◌≡◌, ◌+◌, ◌-◌, ◌*◌, ◌/◌, ◌%◌, ◌≤◌, length, get_or, take, drop, sym, refl, ap, ◌∙◌, arith, rules}
-use Rattle.message.specs.Header.{opens, type_of}
+use Rattle.std.proofs.Common.{◌≡◌, ◌+◌, ◌-◌, ◌*◌, ◌%◌, ◌≤◌, length, get_or, take, drop, sym, refl, ◌∙◌, arith, rules}
+use Rattle.message.specs.Header.{opens}
 use Rattle.message.proofs.Heads.{opening_cut, framed_opens}
 use Rattle.message.proofs.reader.Reader.open.Goals as goal
 

@@ -1,5 +1,4 @@
 use Rattle.std.proofs.Common.{◌+◌, length, refl, rules}
-use Rattle.message.specs.Writing.{State}
 use Rattle.message.proofs.Laid.{laid_part}
 use Rattle.message.proofs.writer.Writer.lay.Goals as goal
 

@@ -1,4 +1,4 @@
-use Rattle.std.proofs.Common.{◌≡◌, ◌+◌, ◌*◌, ◌≤◌, length, ap, ◌∙◌, arith, rules}
+use Rattle.std.proofs.Common.{◌+◌, ◌*◌, ◌≤◌, length, ap, ◌∙◌, arith, rules}
 use Rattle.message.specs.Encoding.{Field}
 use Rattle.message.specs.Writing.{State, state_of}
 use Rattle.message.proofs.Laid.{option_size, option_done, option_accepted}

@@ -1,5 +1,5 @@
-use Rattle.std.proofs.Common.{◌≡◌, ◌<◌, ◌≤◌, length, sym, refl, ap, ◌∙◌, arith, rules}
-use Rattle.message.specs.Writing.{State, state_of}
+use Rattle.std.proofs.Common.{◌<◌, ◌≤◌, length, refl, ◌∙◌, arith, rules}
+use Rattle.message.specs.Writing.{state_of}
 use Rattle.message.proofs.Laid.{payload_accepted, payload_empty, payload_some, payload_size, stage_some}
 use Rattle.message.proofs.writer.Writer.payload.Goals as goal
 

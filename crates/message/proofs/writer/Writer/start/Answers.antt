@@ -1,4 +1,4 @@
-use Rattle.std.proofs.Common.{◌≡◌, ◌+◌, ◌*◌, length, ap, ◌∙◌, rules}
+use Rattle.std.proofs.Common.{◌+◌, ◌*◌, length, ap, ◌∙◌, rules}
 use Rattle.message.specs.Header.{Head}
 use Rattle.message.specs.Writing.{state_of}
 use Rattle.message.proofs.Laid.{start_accepted, start_done}
