@@ -1,6 +1,6 @@
 -- The lines of an input are what stands between its line feeds.
 use Rattle.std.proofs.Common.{◌≡◌, ℕ, eqb, List, [], ◌∷◌, ◌++◌, sym, ap, ◌∙◌, ⊎_elim, append_assoc, append-nil}
-use Rattle.std.specs.List.{flat_map, AllByRecursion as All}
+use Rattle.std.specs.List.{flat_map, AllByRecursion}
 use Rattle.std.proofs.ByRecursion.{All-push}
 use Rattle.std.proofs.lemmas.Bool.{cases_Bool, eqb-true, eqb-false}
 use Rattle.inspect.specs.Fields.{line_feed}
@@ -22,9 +22,9 @@ whole_again begun (x ∷ xs) = ⊎_elim
     (cases_Bool (eqb x 10))
 
 abbrev Plain : List ℕ → Type 0
-Plain line = All (λ b. b ≡ 10 → ⊥) line
+Plain line = AllByRecursion (λ b. b ≡ 10 → ⊥) line
 
-plain : (begun input : List ℕ) → Plain begun → All Plain (lines_in begun input) × Plain (line_after begun input)
+plain : (begun input : List ℕ) → Plain begun → AllByRecursion Plain (lines_in begun input) × Plain (line_after begun input)
 plain begun [] p = (tt, p)
 plain begun (x ∷ xs) p = ⊎_elim
     (λ t. let more = plain [] xs tt in rw t ((p, more.0), more.1))

@@ -1,6 +1,6 @@
 -- What is true of the answers to datagrams, of lines, and of an input that comes in pieces.
 use Rattle.std.specs.Prelude.{◌≡◌, ℕ, List, [], ◌++◌, Ok, Err, Result, ◌≢◌}
-use Rattle.std.specs.List.{flat_map, AllByRecursion as All}
+use Rattle.std.specs.List.{flat_map, AllByRecursion}
 use Rattle.message.specs.declared.fault.Rejection.{Rejection}
 use Rattle.message.specs.Message.{parse}
 use Rattle.transcribe.specs.Transcribing.{validity}
@@ -21,8 +21,8 @@ ToldByParse = (d : List ℕ) → verdict (message_text d) ≡ validity (parse d)
 -- The lines of an input have no line feed inside, and with a line feed after each they give the input again.
 pub record SplitAtLineFeeds : Type 0 where
   pub again : (input : List ℕ) → flat_map (λ line. line ++ line_feed) (lines_in [] input) ++ line_after [] input ≡ input
-  pub lines : (input : List ℕ) → All (λ line. All (λ b. b ≢ 10) line) (lines_in [] input)
-  pub rest : (input : List ℕ) → All (λ b. b ≢ 10) (line_after [] input)
+  pub lines : (input : List ℕ) → AllByRecursion (λ line. AllByRecursion (λ b. b ≢ 10) line) (lines_in [] input)
+  pub rest : (input : List ℕ) → AllByRecursion (λ b. b ≢ 10) (line_after [] input)
 
 -- To take two pieces one after the other is to take them as one piece.
 pub record FedInParts : Type 0 where

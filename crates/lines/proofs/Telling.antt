@@ -3,7 +3,7 @@ use Rattle.std.proofs.Common.{◌≡◌, ℕ, ◌+◌, ◌%◌, ◌^◌, ◌<◌
 use Rattle.std.proofs.lemmas.Fmt.{decimal_by_steps, decimal_injective}
 use Rattle.std.proofs.ByRecursion.{All-push}
 use Rattle.std.proofs.lemmas.List.{append_cancel_left, append_cancel_right}
-use Rattle.std.specs.List.{AllByRecursion as All}
+use Rattle.std.specs.List.{AllByRecursion}
 use Rattle.text.proofs.Trips.{hex_round_trip}
 use Rattle.text.specs.Hex.{hex_bytes, hex_text}
 use Rattle.server.specs.Calls.{Answer, Reply, Silent, Refused, Tallied, Counts}
@@ -12,7 +12,7 @@ use Rattle.lines.specs.Laws.{Fitting, LinesTellAnswersApart}
 
 -- No character comes before the digit 0, so none is a blank or a line feed.
 abbrev Dark : List ℕ → Type 0
-Dark text = All (λ c. 48 ≤ c) text
+Dark text = AllByRecursion (λ c. 48 ≤ c) text
 
 dark_decimal : (n : ℕ) → n < 2 ^ 64 → Dark (decimal n)
 dark_decimal =
@@ -38,7 +38,7 @@ number_parted s low m n r q fm fn e =
     let p = parted s low (decimal m) (decimal n) r q (dark_decimal m fm) (dark_decimal n fn) e in
     (decimal_injective m n fm fn p.0, p.1)
 
-same_reply : (a b : List ℕ) → All (λ c. c < 256) a → All (λ c. c < 256) b → reply_line a ≡ reply_line b → a ≡ b
+same_reply : (a b : List ℕ) → AllByRecursion (λ c. c < 256) a → AllByRecursion (λ c. c < 256) b → reply_line a ≡ reply_line b → a ≡ b
 same_reply a b fa fb e =
     let t = append_cancel_right (hex_text a) (hex_text b) line_feed (append_cancel_left (codes "reply ") (hex_text a ++ line_feed) (hex_text b ++ line_feed) e) in
     let same : Some a ≡ Some b = sym (hex_round_trip a fa) ∙ ap hex_bytes t ∙ hex_round_trip b fb in

@@ -31,7 +31,7 @@ kind_by again number len =
     (cond (number == 39) (cond (not again && within 1 255 len) proxy unknown)
     (cond (number % 2 == 0) ignored unknown)))))
 
--- numbers rise, so that the number before tells whether this one was used: see Second-use in Theorems
+-- numbers rise, so that the number before tells whether this one was used: see `second_use` in the theorems of `transcribe`
 abbrev pub kind_of : ℕ → ℕ → ℕ → Kind
 kind_of before number len = kind_by (number == before) number len
 
@@ -92,7 +92,7 @@ abbrev pub walk : ℕ → List ℕ → (at before : ℕ) → OptionList
 walk zero d at before = ended [] at
 walk (suc budget) d at before = onward at (λ o after. walk budget d after o.number) (step at before (drop at d))
 
--- an option takes a byte at least, so that this budget is never spent: see Whole-walk in Theorems
+-- an option takes a byte at least, so that this budget is never spent: see `whole_walk` in the theorems of `transcribe`
 abbrev pub options_from : List ℕ → (at before : ℕ) → OptionList
 options_from d at before = walk (length d + 1) d at before
 

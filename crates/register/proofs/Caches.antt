@@ -1,6 +1,6 @@
 -- A cache keeps the meaning over whatever keeps it.
 use Rattle.std.proofs.Common.{◌≡◌, ℕ, zero, suc, Bool, true, false, cond, ◌&&◌, ltb, leb, List, [], ◌∷◌, replicate, Decides, sym, refl, ap, ◌∙◌, subst, ⊎_elim, arith}
-use Rattle.std.specs.List.{AllByRecursion as All}
+use Rattle.std.specs.List.{AllByRecursion}
 use Rattle.std.specs.Str.{bytes_eq}
 use Rattle.std.proofs.ByRecursion.{All-set}
 use Rattle.std.proofs.lemmas.Slice.Eq.{bytes_eq-Decides}
@@ -12,7 +12,7 @@ use Rattle.register.specs.Meaning.{TrueAge, Meaning, Laws}
 use Rattle.register.specs.Cached.{Entry, Cached, answers_at, hit, from_entries, from_entry, entry_place, is_content, kept_after, no_entry, Fresh, cached}
 use Rattle.register.proofs.Conds.{cond_one, Zero}
 
-pub all_replicate : {X : Type 0} (P : X → Type 0) (n : ℕ) (x : X) → P x → All P (replicate n x)
+pub all_replicate : {X : Type 0} (P : X → Type 0) (n : ℕ) (x : X) → P x → AllByRecursion P (replicate n x)
 all_replicate P zero x p = tt
 all_replicate P (suc n) x p = (p, all_replicate P n x p)
 
@@ -28,7 +28,7 @@ path_same (x ∷ xs) (y ∷ ys) e =
 abbrev Says : (Path → ℕ → Shown) → Path → ℕ → Read → Type 0
 Says f p t g = (g.shown ≡ f p t) × TrueAge (f p) t g
 
-hit_true : (f : Path → ℕ → Shown) (p : Path) (t : ℕ) (es : List Entry) → All (Fresh f) es → hit p t es ≡ true → IsMoment t →
+hit_true : (f : Path → ℕ → Shown) (p : Path) (t : ℕ) (es : List Entry) → AllByRecursion (Fresh f) es → hit p t es ≡ true → IsMoment t →
     ((from_entries p t es).shown ≡ f p t) × TrueAge (f p) t (from_entries p t es)
 hit_true f p t [] a e h = absurd (false≢true e)
 hit_true f p t (x ∷ xs) a e h = go (answers_at p t x) refl (hit_true f p t xs a.1)
@@ -53,13 +53,13 @@ hit_content p t (x ∷ xs) e = go (answers_at p t x) refl (hit_content p t xs)
     go true n ih = refl
     go false n ih = ih (⊎_elim (λ y. absurd (both_ways _ n y)) (λ y. y) (or_cases (answers_at p t x) (hit p t xs) e))
 
-hit_fits : (p : Path) (t : ℕ) (es : List Entry) (f : Path → ℕ → Shown) → All (Fresh f) es → IsRead (from_entries p t es)
+hit_fits : (p : Path) (t : ℕ) (es : List Entry) (f : Path → ℕ → Shown) → AllByRecursion (Fresh f) es → IsRead (from_entries p t es)
 hit_fits p t [] f a = (omega arith, omega arith)
 hit_fits p t (x ∷ xs) f a = cond_one IsRead (answers_at p t x) _ _ (a.0.0, omega arith) (hit_fits p t xs f a.1)
 
 -- what is kept is fresh
-keeps_fresh : (f : Path → ℕ → Shown) (p : Path) (t : ℕ) (g : Read) (es : List Entry) → TrueAge (f p) t g → IsBody g.shown.body → All (Fresh f) es → All (Fresh f) (kept_after p t g es)
-keeps_fresh f p t g es h f-fits a = cond_both (is_content g.shown.code && leb 1 g.max_age) _ _ (All (Fresh f))
+keeps_fresh : (f : Path → ℕ → Shown) (p : Path) (t : ℕ) (g : Read) (es : List Entry) → TrueAge (f p) t g → IsBody g.shown.body → AllByRecursion (Fresh f) es → AllByRecursion (Fresh f) (kept_after p t g es)
+keeps_fresh f p t g es h f-fits a = cond_both (is_content g.shown.code && leb 1 g.max_age) _ _ (AllByRecursion (Fresh f))
     (λ e. All-set (Fresh f) es (entry_place p es) _ (f-fits, λ u mu lo hi. h u mu lo hi ∙ content g.shown.code refl (and_parts _ (leb 1 g.max_age) e).0) a)
     (λ _. a)
   where
@@ -79,7 +79,7 @@ cached_laws m l = record {
   said_fits = λ s c t k h w. l.said_fits s.below c t k.0 h w;
   read_sound = λ s p t k h. cond_one (cached m).Sound (hit p t s.entries) _ _ k (
     l.read_sound s.below p t k.0 h,
-    subst (λ r. All (Fresh (m.shows r)) (kept_after p t (m.reads s.below p t) s.entries)) (sym (l.kept s.below p t k.0 h))
+    subst (λ r. AllByRecursion (Fresh (m.shows r)) (kept_after p t (m.reads s.below p t) s.entries)) (sym (l.kept s.below p t k.0 h))
         (keeps_fresh (m.shows (m.register s.below)) p t (m.reads s.below p t) s.entries (l.truth s.below p t k.0 h) (l.read_fits s.below p t k.0 h).0 k.1),
   );
   read_fixed = λ s p t. cond_one (λ (x : Cached m.State). m.fixed x.below ≡ m.fixed s.below) (hit p t s.entries) _ _ refl (l.read_fixed s.below p t);

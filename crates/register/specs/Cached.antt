@@ -1,6 +1,6 @@
 -- A cache of eight entries before a resource. Its register is the one below.
 use Rattle.std.specs.Prelude.{◌≡◌, ℕ, ◌+◌, ◌-◌, ◌*◌, ◌/◌, ◌<◌, ◌≤◌, min, Bool, true, false, cond, ◌&&◌, ◌||◌, List, [], ◌∷◌, map, replicate, nat_le, nat_lt, slice_set}
-use Rattle.std.specs.List.{AllByRecursion as All}
+use Rattle.std.specs.List.{AllByRecursion}
 use Rattle.register.specs.declared.values.ReadCode.{ReadCode}
 use Rattle.register.specs.declared.values.ReadCode.TheVariants.{Content, NotFound}
 use Rattle.register.specs.Values.{Bytes, Path, same_path, IsMoment, Shown, Read, IsBody, nothing}
@@ -81,5 +81,5 @@ cached m = record {
   after_change = λ s c t. record { below = m.after_change s.below c t; entries = all_empty };
   Fixed = m.Fixed;
   fixed = λ s. m.fixed s.below;
-  Sound = λ s. m.Sound s.below × All (Fresh (m.shows (m.register s.below))) s.entries;
+  Sound = λ s. m.Sound s.below × AllByRecursion (Fresh (m.shows (m.register s.below))) s.entries;
 }

@@ -1,7 +1,7 @@
 -- Lists of records: what stands in one, what a write leaves, where the place rule points, what a live record is.
 use Rattle.std.proofs.Common.{◌≡◌, ℕ, zero, suc, ◌+◌, ◌<◌, ◌≤◌, min, Bool, true, false, cond, ◌&&◌, ◌||◌, eqb, ltb, ◌⊎◌, List, [], ◌∷◌, length, get_or, set, replicate, sym, refl, ap, ◌∙◌, subst, inl, inr, ⊎_elim, add-one, arith}
 use lib.ListN.{length-map}
-use Rattle.std.specs.List.{AllByRecursion as All}
+use Rattle.std.specs.List.{AllByRecursion}
 use Rattle.std.proofs.lemmas.Bool.{both_ways, and_parts, and_from, and_cases, or_cases, or_parts, cases_lt, eqb-true, eq-eqb, ltb-true, ltb-false, lt-ltb, true≢false, false≢true}
 use Rattle.register.specs.Places.{first, least_from, least, place_in}
 use Rattle.register.specs.Values.{Bytes}
@@ -12,12 +12,12 @@ use Rattle.server.specs.Promises.{Distinct}
 
 -- ## Membership
 
-pub all_in : {X : Type 0} (P : X → Type 0) (xs : List X) (x : X) → All P xs → In x xs → P x
+pub all_in : {X : Type 0} (P : X → Type 0) (xs : List X) (x : X) → AllByRecursion P xs → In x xs → P x
 all_in P [] x a i = absurd i
 all_in P (y ∷ ys) x a (inl e) = subst P (sym e) a.0
 all_in P (y ∷ ys) x a (inr i) = all_in P ys x a.1 i
 
-pub all_replicate : {X : Type 0} (P : X → Type 0) (n : ℕ) (x : X) → P x → All P (replicate n x)
+pub all_replicate : {X : Type 0} (P : X → Type 0) (n : ℕ) (x : X) → P x → AllByRecursion P (replicate n x)
 all_replicate P zero x p = tt
 all_replicate P (suc n) x p = (p, all_replicate P n x p)
 
@@ -131,7 +131,7 @@ pub record Found (P : Record → Type 0) (rs : List Record) (a : Admitted) : Typ
   pub matching : matches one.key a ≡ true
   pub reply_is : recorded rs a ≡ one.reply
 
-pub live_found : (P : Record → Type 0) (rs : List Record) (a : Admitted) → All P rs → live (keys rs) a ≡ true → Found P rs a
+pub live_found : (P : Record → Type 0) (rs : List Record) (a : Admitted) → AllByRecursion P rs → live (keys rs) a ≡ true → Found P rs a
 live_found P [] a h e = absurd (false≢true e)
 live_found P (r ∷ rs) a h e = go (matches r.key a) refl (live_found P rs a h.1)
   where

@@ -1,6 +1,6 @@
 -- What holds of server and ledger after every history that meets the premises.
 use Rattle.std.proofs.Common.{◌≡◌, ℕ, ◌+◌, ◌<◌, ◌≤◌, true, false, cond, not, ◌⊎◌, List, [], ◌∷◌, length, get_or, set, sym, refl, ap, ◌∙◌, subst, inl, inr, ⊎_elim, arith}
-use Rattle.std.specs.List.{AllByRecursion as All}
+use Rattle.std.specs.List.{AllByRecursion}
 use Rattle.std.proofs.ByRecursion.{All-weaker, All-set}
 use Rattle.std.proofs.lemmas.Bool.{both_ways, cases_Bool, cases_eq}
 use Rattle.register.specs.Places.{place_in}
@@ -42,11 +42,11 @@ Past ms last e = (e.arrival.moment ≤ last) × (ms.asks e.arrival.datagram ≡ 
 pub record Inv (m : Meaning) (ms : Messages) (v : Server m.State) (l : Ledger m.Register) (es : List Arrived) : Type 0 where
   pub sound : m.Sound v.stack
   pub register : m.register v.stack ≡ l.register
-  pub owned : All (Owned es l.firsts) v.records
-  pub memory : All (Memory es v.records v.last) l.firsts
-  pub past : All (Past ms v.last) es
+  pub owned : AllByRecursion (Owned es l.firsts) v.records
+  pub memory : AllByRecursion (Memory es v.records v.last) l.firsts
+  pub past : AllByRecursion (Past ms v.last) es
   pub distinct : Distinct l.firsts
-  pub plain : All (λ n. is_content (ms.seen_in n.bytes) ≡ false) l.firsts
+  pub plain : AllByRecursion (λ n. is_content (ms.seen_in n.bytes) ≡ false) l.firsts
 
 -- ## Weakening
 

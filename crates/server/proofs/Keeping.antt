@@ -1,6 +1,6 @@
 -- The promises, from the invariant.
 use Rattle.std.proofs.Common.{◌≡◌, ℕ, suc, ◌+◌, ◌*◌, ◌<◌, true, false, cond, List, [], ◌∷◌, ◌++◌, length, Some, Option, sym, refl, ap, ◌∙◌, subst, arith}
-use Rattle.std.specs.List.{AllByRecursion as All}
+use Rattle.std.specs.List.{AllByRecursion}
 use Rattle.std.proofs.lemmas.Bool.{both_ways, true≢false, eq-eqb}
 use Rattle.register.specs.declared.values.ReadCode.TheVariants.{Content}
 use Rattle.register.specs.Values.{Bytes, IsMoment, IsBody}
@@ -99,7 +99,7 @@ module _ (m : Meaning) (law : Laws m) (ms : Messages) (sep : Framing ms) where
     done_change n e Done k = let h : n.done + 1 ≡ suc (length l.firsts) = omega arith in h ∙ ap (λ (x : Ledger m.Register). length x.firsts) (book_done m ms l r a k.0)
 
     -- the bytes of a change's reply are no 2.05
-    plain_change : All (λ n. is_content (ms.seen_in n.bytes) ≡ false) l.firsts → (f : Ending) → Known m ms v l r a f → (b : Bytes) → answer_change m ms v a f ≡ Reply b → is_content (ms.seen_in b) ≡ false
+    plain_change : AllByRecursion (λ n. is_content (ms.seen_in n.bytes) ≡ false) l.firsts → (f : Ending) → Known m ms v l r a f → (b : Bytes) → answer_change m ms v a f ≡ Reply b → is_content (ms.seen_in b) ≡ false
     plain_change q Repeated k b e =
         let same : recorded v.records a ≡ b = cc e in
         subst (λ x. is_content (ms.seen_in x) ≡ false) same (all_in (λ n. is_content (ms.seen_in n.bytes) ≡ false) l.firsts (first_of r (recorded v.records a)) q k.1)

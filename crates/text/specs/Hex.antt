@@ -1,6 +1,6 @@
 -- Bytes written in hexadecimal: what a line of text says, and the text of bytes.
 use Rattle.std.specs.Prelude.{◌≡◌, ℕ, ◌+◌, ◌-◌, ◌*◌, ◌/◌, ◌%◌, ◌<◌, Bool, cond, ◌&&◌, ◌||◌, List, [], ◌∷◌, Some, None, Option, ◌==◌, nat_le, nat_lt}
-use Rattle.std.specs.List.{AllByRecursion as All}
+use Rattle.std.specs.List.{AllByRecursion}
 
 -- The value of one digit, of either case.
 abbrev pub digit_of : ℕ → Option ℕ
@@ -43,4 +43,4 @@ hex_text (b ∷ bs) = hex_digit (b / 16) ∷ hex_digit (b % 16) ∷ hex_text bs
 
 -- Bytes that are written and read again are the same bytes.
 abbrev pub HexRoundTrip : Type 0
-HexRoundTrip = (bs : List ℕ) → All (λ b. b < 256) bs → hex_bytes (hex_text bs) ≡ Some bs
+HexRoundTrip = (bs : List ℕ) → AllByRecursion (λ b. b < 256) bs → hex_bytes (hex_text bs) ≡ Some bs
