@@ -30,7 +30,7 @@ mod tests {
         let exchange = exchange_of(&datagram);
         assert!(rt; exchange.confirmable);
         assert_eq!(rt; exchange.id, 0x1234);
-        assert_eq!(rt; exchange.token, &[0xA1]);
+        assert_eq!(rt; exchange.token, [0xA1].as_slice());
         Ok(())
     }
 
