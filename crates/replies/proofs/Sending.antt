@@ -1,7 +1,7 @@
 -- A message by its parts: how long it is, and that it can be written.
-use Rattle.std.proofs.Common.{◌≡◌, ℕ, ◌+◌, ◌<◌, ◌≤◌, true, false, cond, eqb, List, [], length, Some, None, Option, Result, refl, ap, ◌∙◌, arith}
+use Rattle.std.proofs.Common.{◌≡◌, ℕ, ◌<◌, ◌≤◌, true, false, cond, eqb, List, [], length, Some, None, Option, Result, refl, ap, ◌∙◌, arith}
 use Rattle.message.specs.declared.writer.WriteError.{WriteError}
-use Rattle.message.specs.Encoding.{Field, options_bytes, payload_bytes, encode}
+use Rattle.message.specs.Encoding.{Field, options_bytes, encode}
 use Rattle.message.specs.Message.{Rising, WellFormed}
 use Rattle.transcribe.proofs.Copying.{size_of}
 use Rattle.register.specs.Values.{Bytes, Said, code_byte}

@@ -1,7 +1,7 @@
 -- How long replies are at most, and that a buffer with room is never refused.
-use Rattle.std.proofs.Common.{◌≡◌, ℕ, ◌+◌, ◌≤◌, false, cond, eqb, ltb, List, [], length, Ok, refl, ap, ◌∙◌, arith}
+use Rattle.std.proofs.Common.{◌≡◌, ℕ, ◌+◌, ◌≤◌, cond, eqb, ltb, List, [], length, Ok, refl, ap, ◌∙◌, arith}
 use Rattle.std.proofs.lemmas.Bool.{le-ltb, cond-false}
-use Rattle.message.specs.Encoding.{Field, options_bytes, payload_bytes}
+use Rattle.message.specs.Encoding.{Field, options_bytes}
 use Rattle.message.specs.Writing.{laid}
 use Rattle.transcribe.proofs.Copying.{size_of}
 use Rattle.register.specs.declared.values.ReadCode.{ReadCode}

@@ -184,9 +184,10 @@ mod tests {
         assert_eq!(rt; write_read(&exchange, &answer, &mut out), Ok(12));
         assert_eq!(rt;
             &out[0..12],
-            &[
+            [
                 0x61, 0x45, 0x12, 0x34, 0xA1, 0xD1, 0x01, 0x32, 0xFF, 0x61, 0x6E, 0x6E,
             ]
+            .as_slice()
         );
         Ok(())
     }
@@ -208,25 +209,17 @@ mod tests {
         assert_eq!(rt; write_change(&exchange, &answer, &mut out), Ok(8));
         assert_eq!(rt;
             &out[0..8],
-            &[0x50, 0xA3, 0x00, 0x07, 0xD2, 0x01, 0x01, 0x00]
+            [0x50, 0xA3, 0x00, 0x07, 0xD2, 0x01, 0x01, 0x00].as_slice()
         );
     }
 
-    // A Reset, whatever the token; and a buffer that is too short for it.
+    // A Reset; and a buffer that is too short for it.
     #[test]
     fn resets(rt: HostRuntime) {
-        let exchange = Exchange {
-            confirmable: true,
-            id: 5,
-            token: &[0; 9],
-        };
         let mut out = [0xEE; 4];
-        assert_eq!(rt;
-            write_reply(&exchange, Reply::Reset, &mut out[0..3]),
-            Err(WriteError::NoRoom)
-        );
+        assert_eq!(rt; write_reset(5, &mut out[0..3]), Err(WriteError::NoRoom));
         assert_eq!(rt; &out, &[0xEE; 4]);
-        assert_eq!(rt; write_reply(&exchange, Reply::Reset, &mut out), Ok(4));
+        assert_eq!(rt; write_reset(5, &mut out), Ok(4));
         assert_eq!(rt; &out, &[0x70, 0x00, 0x00, 0x05]);
     }
 }

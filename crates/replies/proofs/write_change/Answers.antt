@@ -1,4 +1,4 @@
-use Rattle.std.proofs.Common.{◌≡◌, ◌≤◌, length, ap, ◌∙◌, subst}
+use Rattle.std.proofs.Common.{◌≤◌, length, ap, ◌∙◌, subst}
 use Rattle.register.specs.Values.{code_byte}
 use Rattle.register.specs.Model.{said_of}
 use Rattle.server.specs.Replies.{reply_message}

@@ -1,4 +1,4 @@
-use Rattle.std.proofs.Common.{◌≡◌, ◌≤◌, length, sym, subst}
+use Rattle.std.proofs.Common.{◌≤◌, length, sym, subst}
 use Rattle.register.specs.Values.{Bytes}
 use Rattle.register.specs.Model.{read_of}
 use Rattle.calls.specs.Model.{exchange_as}
