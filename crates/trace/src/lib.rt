@@ -41,7 +41,7 @@ mod tests {
             Ok(Block::Call(Call::Arrival(arrival))) => {
                 assert_eq!(rt; arrival.peer, 1);
                 assert_eq!(rt; arrival.moment, 0);
-                assert_eq!(rt; arrival.datagram, &[0x40, 0, 0, 5]);
+                assert_eq!(rt; arrival.datagram, [0x40, 0, 0, 5].as_slice());
                 Ok(())
             }
             _ => Err(Fail::new("no arrival")),
