@@ -6,7 +6,7 @@ use Rattle.std.proofs.lemmas.List.{append_cancel_left, append_cancel_right}
 use Rattle.std.specs.List.{AllByRecursion}
 use Rattle.text.proofs.Trips.{hex_round_trip}
 use Rattle.text.specs.Hex.{hex_bytes, hex_text}
-use Rattle.server.specs.Calls.{Answer, Reply, Silent, Refused, Tallied, Counts}
+use Rattle.server.specs.Calls.{Reply, Silent, Refused, Tallied, Counts}
 use Rattle.lines.specs.Lines.{line_feed, number_line, reply_line, tally_line}
 use Rattle.lines.specs.Laws.{Fitting, LinesTellAnswersApart}
 

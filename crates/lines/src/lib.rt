@@ -31,7 +31,7 @@ mod tests {
         push_answer(&mut out, &Served::Tallied(counts))?;
         assert_eq!(rt;
             out.as_slice(),
-            b"reply 60450AFF\nsilent 15\nrefused 3\ntally 1 20 0 4294967295\n"
+            b"reply 60450AFF\nsilent 15\nrefused 3\ntally 1 20 0 4294967295\n".as_slice()
         );
         Ok(())
     }
@@ -47,7 +47,10 @@ mod tests {
         ] {
             push_notice(&mut out, notice)?;
         }
-        assert_eq!(rt; out.as_slice(), b"pile 2\ndamaged\nno head\nend\n");
+        assert_eq!(rt;
+            out.as_slice(),
+            b"pile 2\ndamaged\nno head\nend\n".as_slice()
+        );
         Ok(())
     }
 }
