@@ -44,3 +44,54 @@ pub fn plots_session(
     let stack = plots_stack(plots, files);
     session(stack, calls, heap)
 }
+
+#[cfg(test)]
+mod tests {
+    use super::*;
+    use calls::call::Arrival;
+    use std::test::Fail;
+
+    // A GET of plot 7 by peer 1, and a tally: the plot is free, and no change was asked for.
+    fn reads_a_plot(datagram: &[u8]) -> [Call<'_>; 2] {
+        let arrival = Arrival {
+            moment: 0,
+            peer: 1,
+            datagram,
+        };
+        [Call::Arrival(arrival), Call::Tally]
+    }
+
+    #[test]
+    fn serves_the_office(rt: HostRuntime) -> Result<(), Fail> {
+        let mut plots = [PlotRecord::vacant(); 8];
+        let mut files = [FileRecord::unused(); 8];
+        let datagram = [0x41, 0x01, 0x12, 0x34, 0xA1, 0xB1, 0x62, 0x01, 0x37];
+        let calls = reads_a_plot(&datagram);
+        let answers = office_session(&mut plots, &mut files, &calls, rt.alloc())?;
+        match answers.as_slice() {
+            [Served::Reply(reply), Served::Tallied(counts)] => {
+                assert_eq!(rt; reply.as_slice(), [0x61, 0x45, 0x12, 0x34, 0xA1].as_slice());
+                assert_eq!(rt; counts.done, 0);
+                Ok(())
+            }
+            _ => Err(Fail::new("other answers")),
+        }
+    }
+
+    #[test]
+    fn serves_the_plots_alone(rt: HostRuntime) -> Result<(), Fail> {
+        let mut plots = [PlotRecord::vacant(); 8];
+        let mut files = [FileRecord::unused(); 8];
+        let datagram = [0x40, 0x01, 0x00, 0x01, 0xB1, 0x37];
+        let calls = reads_a_plot(&datagram);
+        let answers = plots_session(&mut plots, &mut files, &calls, rt.alloc())?;
+        match answers.as_slice() {
+            [Served::Reply(reply), Served::Tallied(counts)] => {
+                assert_eq!(rt; reply.as_slice(), [0x60, 0x45, 0x00, 0x01].as_slice());
+                assert_eq!(rt; counts.done, 0);
+                Ok(())
+            }
+            _ => Err(Fail::new("other answers")),
+        }
+    }
+}
