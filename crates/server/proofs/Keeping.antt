@@ -196,24 +196,24 @@ module _ (m : Meaning) (law : Laws m) (ms : Messages) (sep : Framing ms) where
       inv = invariant m law ms sep s ok before (premises_before m law ms sep es f.request (event_in ms before f) p)
 
       -- as the server sees the call
-      abbrev k : Event
-      k = event_by ms v f.call
+      abbrev event : Event
+      event = event_by ms v f.call
 
-      apt : Apt ms v.last (keys v.records) k
+      apt : Apt ms v.last (keys v.records) event
       apt = event_apt ms v f.call
 
-      prem : Premises (listed es f.request k)
+      prem : Premises (listed es f.request event)
       prem = subst (λ x. Premises (listed es f.request x)) (sym (same_event m ms s (calls before) f.call)) p
 
-      copy : (a : Admitted) (x : Ending) (b : Bytes) → event_in ms before f ≡ Changing a x → In (first_of f.request b) l.firsts → answer m ms v f.call ≡ cond a.con (Reply b) (Silent 15)
-      copy a x b e i =
-          let e' : k ≡ Changing a x = same_event m ms s (calls before) f.call ∙ e in
+      copy : (a : Admitted) (x : Ending) (bytes : Bytes) → event_in ms before f ≡ Changing a x → In (first_of f.request bytes) l.firsts → answer m ms v f.call ≡ cond a.con (Reply bytes) (Silent 15)
+      copy a x bytes e i =
+          let e' : event ≡ Changing a x = same_event m ms s (calls before) f.call ∙ e in
           ap (answer_event m ms v) e' ∙
-          copy_answer v l f.request a b inv.distinct i x
+          copy_answer v l f.request a bytes inv.distinct i x
           (known m law ms sep v l es f.request a x inv (subst (λ y. Premises (listed es f.request y)) e' prem) (subst (Apt ms v.last (keys v.records)) e' apt))
 
       -- a reply in which a client reads a 2.05 is one to a GET
-      current : (later : List Grouped) (b : Bytes) (seen : Seen) (x : Event) → k ≡ x → Apt ms v.last (keys v.records) x → Premises (listed es f.request x) → answer_event m ms v x ≡ Reply b → ms.seen_in b ≡ Some seen → seen.code ≡ 69 → Current m ms s later f before seen
+      current : (later : List Grouped) (b : Bytes) (seen : Seen) (x : Event) → event ≡ x → Apt ms v.last (keys v.records) x → Premises (listed es f.request x) → answer_event m ms v x ≡ Reply b → ms.seen_in b ≡ Some seen → seen.code ≡ 69 → Current m ms s later f before seen
       current later b seen (TurnedAway n) e a q w t c = absurd (let z : ◌≡◌ {A = ℕ} 0 1 = cc w in omega arith)
       current later b seen (Settles u d o) e a q w t c = absurd (both_ways _ (sep.not_settled d b (a.2 ∙ ap Settled w)) (content_is (ms.seen_in b) seen t c))
       current later b seen (Reading u d path) e a q w t c =
@@ -247,7 +247,7 @@ module _ (m : Meaning) (law : Laws m) (ms : Messages) (sep : Framing ms) where
         let before = premises_before m law ms sep (admitted ms past) f.request (event_in ms past f) p in
         let v = served m ms s (calls past) in
         ap (λ ns. noting ns f.request (event_in ms past f) (answer m ms v f.call)) (firsts_are past before) ∙
-        subst (λ k. Premises (listed (admitted ms past) f.request k) → noting (L past).firsts f.request k (answer m ms v f.call) ≡ (booked m ms (L past) f.request k).firsts)
+        subst (λ event. Premises (listed (admitted ms past) f.request event) → noting (L past).firsts f.request event (answer m ms v f.call) ≡ (booked m ms (L past) f.request event).firsts)
         (same_event m ms s (calls past) f.call)
         (first_step v (L past) (admitted ms past) f.request (invariant m law ms sep s ok past before) (event_by ms v f.call) (event_apt ms v f.call))
         p
@@ -259,7 +259,7 @@ module _ (m : Meaning) (law : Laws m) (ms : Messages) (sep : Framing ms) where
         let v = served m ms s (calls past) in
         let found = event_by ms v f.call in
         ap (λ rs. cond (does found) (f.request ∷ rs) rs) (once past before) ∙
-        subst (λ k. Premises (listed (admitted ms past) f.request k) → cond (does found) (f.request ∷ requests (L past).firsts) (requests (L past).firsts) ≡ requests (booked m ms (L past) f.request k).firsts)
+        subst (λ event. Premises (listed (admitted ms past) f.request event) → cond (does found) (f.request ∷ requests (L past).firsts) (requests (L past).firsts) ≡ requests (booked m ms (L past) f.request event).firsts)
         (same_event m ms s (calls past) f.call)
         (once_step v (L past) (admitted ms past) f.request (invariant m law ms sep s ok past before) (event_by ms v f.call) (event_apt ms v f.call))
         p
@@ -269,7 +269,7 @@ module _ (m : Meaning) (law : Laws m) (ms : Messages) (sep : Framing ms) where
     done_is (f ∷ past) p =
         let before = premises_before m law ms sep (admitted ms past) f.request (event_in ms past f) p in
         let v = served m ms s (calls past) in
-        subst (λ k. Premises (listed (admitted ms past) f.request k) → (counted (ended ms (calls past)) k).done ≡ length (booked m ms (L past) f.request k).firsts)
+        subst (λ event. Premises (listed (admitted ms past) f.request event) → (counted (ended ms (calls past)) event).done ≡ length (booked m ms (L past) f.request event).firsts)
         (same_event m ms s (calls past) f.call)
         (done_step v (L past) (admitted ms past) f.request (invariant m law ms sep s ok past before) (ended ms (calls past)) (done_is past before) (event_by ms v f.call) (event_apt ms v f.call))
         p
