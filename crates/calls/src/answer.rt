@@ -5,23 +5,25 @@ ghost use Rattle.calls.specs.Numbers.{refusal_number, silence_number};
 use crate::report::Report;
 use register::bytes::Bytes;
 
-// A reply of so many bytes at the front of the buffer, silence, or a refusal.
-#[derive(Clone, Copy)]
-pub enum Answer {
-    Reply(usize),
+// The answer to an arrival: a reply, silence, or a refusal. Where a reply is written into a buffer, R is the number of
+// its bytes at the buffer's front; else R has the bytes.
+// Silence is an answer and no failure, so it is no `Result`.
+#[derive(Clone, Copy, PartialEq, Eq, Debug)]
+pub enum Answer<R> {
+    Reply(R),
     Silent(Silence),
     Refused(Refusal),
 }
 
 // The answer to an arrival, and why it was not carried to the register, where it was not.
-#[derive(Clone, Copy)]
+#[derive(Clone, Copy, PartialEq, Eq, Debug)]
 pub struct Outcome {
-    pub answer: Answer,
+    pub answer: Answer<usize>,
     pub report: Option<Report>,
 }
 
 // How many arrivals ended as done, repeated, silenced and dropped.
-#[derive(Clone, Copy)]
+#[derive(Clone, Copy, Default, PartialEq, Eq, Debug)]
 pub struct Counts {
     pub done: u32,
     pub repeated: u32,
@@ -29,26 +31,24 @@ pub struct Counts {
     pub dropped: u32,
 }
 
-// What a call is answered, with the bytes of the reply.
-#[derive(Clone, Copy)]
+// What a call is answered, with the bytes of a reply.
+#[derive(Clone, Copy, PartialEq, Eq, Debug)]
 pub enum Served {
-    Reply(Bytes<320>),
-    Silent(Silence),
-    Refused(Refusal),
-    Tallied(Counts),
+    Arrival(Answer<Bytes<320>>),
+    Tally(Counts),
 }
 
 // Why the server takes no notice of an arrival; the host called it wrongly, and nothing has changed.
-#[derive(Clone, Copy)]
+#[derive(Clone, Copy, PartialEq, Eq, Debug)]
 pub enum Refusal {
     // A moment before the last accepted one, or from 2^48 on.
-    Moment,
+    Moment = 1,
     // A reply buffer under 320 bytes.
-    ReplyBuffer,
+    ReplyBuffer = 2,
     // A datagram over 480 bytes.
-    Datagram,
+    Datagram = 3,
     // 4,294,967,295 arrivals were accepted already.
-    Arrivals,
+    Arrivals = 4,
 }
 
 impl Refusal {
@@ -56,27 +56,22 @@ impl Refusal {
     pub fn number(self) -> u8
         ensures { result ≡ refusal_number self }
     {
-        match self {
-            Refusal::Moment => 1,
-            Refusal::ReplyBuffer => 2,
-            Refusal::Datagram => 3,
-            Refusal::Arrivals => 4,
-        }
+        self as u8
     }
 }
 
 // Why an arrival gets no reply.
-#[derive(Clone, Copy)]
+#[derive(Clone, Copy, PartialEq, Eq, Debug)]
 pub enum Silence {
-    NotCoap,
-    Fault,
-    Empty,
-    NotRequest,
-    UnknownOption,
+    NotCoap = 10,
+    Fault = 11,
+    Empty = 12,
+    NotRequest = 13,
+    UnknownOption = 14,
     // The copy of a change that is not confirmable.
-    Copy,
+    Copy = 15,
     // No deduplication record is free.
-    NoRecord,
+    NoRecord = 16,
 }
 
 impl Silence {
@@ -84,14 +79,6 @@ impl Silence {
     pub fn number(self) -> u8
         ensures { result ≡ silence_number self }
     {
-        match self {
-            Silence::NotCoap => 10,
-            Silence::Fault => 11,
-            Silence::Empty => 12,
-            Silence::NotRequest => 13,
-            Silence::UnknownOption => 14,
-            Silence::Copy => 15,
-            Silence::NoRecord => 16,
-        }
+        self as u8
     }
 }

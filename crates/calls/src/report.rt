@@ -6,14 +6,14 @@ ghost use Rattle.calls.specs.declared.report.Report.TheVariants.{Unreadable};
 use message::fault::{MessageFault, Rejection};
 
 // An option by its number and the place in the datagram where its value begins.
-#[derive(Clone, Copy)]
+#[derive(Clone, Copy, PartialEq, Eq, Debug)]
 pub struct OptionAt {
     pub number: u16,
     pub place: usize,
 }
 
 // Why a datagram is not carried to the register. What the reader found wrong is kept whole, cause and place.
-#[derive(Clone, Copy)]
+#[derive(Clone, Copy, PartialEq, Eq, Debug)]
 pub enum Report {
     Unreadable(Rejection),
     // The code 0.00.

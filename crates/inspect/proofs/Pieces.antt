@@ -1,5 +1,6 @@
 -- An input that comes in pieces.
-use Rattle.std.proofs.Common.{◌≡◌, ℕ, true, false, cond, eqb, List, [], ◌∷◌, ◌++◌, sym, refl, ap, ◌∙◌, append_assoc}
+use Rattle.std.proofs.Common.{◌≡◌, ℕ, true, false, cond, eqb, List, [], ◌∷◌, ◌++◌, refl, ap, ◌∙◌}
+use Rattle.std.proofs.lemmas.List.Concat.{flat_map-append}
 use Rattle.std.specs.List.{flat_map}
 use Rattle.inspect.specs.declared.stream.Tally.{Tally}
 use Rattle.inspect.specs.Line.{line_text, line_kind}
@@ -28,10 +29,6 @@ pub counted_all_append : (t : Tally) (xs ys : List (List ℕ)) → counted_all t
 counted_all_append t [] ys = refl
 counted_all_append t (x ∷ xs) ys = counted_all_append (counted (line_kind x) t) xs ys
 
-pub joined_append : (f : List ℕ → List ℕ) (xs ys : List (List ℕ)) → flat_map f (xs ++ ys) ≡ flat_map f xs ++ flat_map f ys
-joined_append f [] ys = refl
-joined_append f (x ∷ xs) ys = ap (λ l. f x ++ l) (joined_append f xs ys) ∙ sym (append_assoc (f x) (flat_map f xs) (flat_map f ys))
-
 pub fed_append : (s : State) (a b : List ℕ) → fed s (a ++ b) ≡ fed (fed s a) b
 fed_append s a b = λ i. record {
   line = line_after_append s.line a b i;
@@ -39,7 +36,7 @@ fed_append s a b = λ i. record {
 }
 
 pub answers_append : (s : State) (a b : List ℕ) → answers s (a ++ b) ≡ answers s a ++ answers (fed s a) b
-answers_append s a b = ap (flat_map line_text) (lines_in_append s.line a b) ∙ joined_append line_text (lines_in s.line a) (lines_in (line_after s.line a) b)
+answers_append s a b = ap (flat_map line_text) (lines_in_append s.line a b) ∙ flat_map-append line_text (lines_in s.line a) (lines_in (line_after s.line a) b)
 
 pub fed_in_parts : FedInParts
 fed_in_parts = record { state = fed_append; text = answers_append }

@@ -1,6 +1,7 @@
 -- All that is written of the pieces of an input is the report on the input.
 use Rattle.std.proofs.Common.{◌≡◌, ℕ, ◌+◌, ◌-◌, ◌^◌, ◌≤◌, List, [], ◌∷◌, ◌++◌, sym, refl, ap, ◌∙◌, append_assoc, zero-add, arith}
 use native.Mathlib.Nat.{min-le_right}
+use Rattle.std.proofs.lemmas.List.Concat.{flat_map-append}
 use Rattle.std.specs.List.{flat_map}
 use Rattle.inspect.specs.declared.datagram.LineKind.{LineKind}
 use Rattle.inspect.specs.declared.datagram.LineKind.TheVariants.{Message, Fault, Other}
@@ -10,7 +11,7 @@ use Rattle.inspect.specs.Lines.{lines_in, line_after, last_line, all_lines}
 use Rattle.inspect.specs.Counts.{at_most, counted, counted_all, same_kind, how_many, tally_of, totals}
 use Rattle.inspect.specs.Stream.{State, report, fed, fresh, answers, closing, told}
 use Rattle.inspect.specs.Laws.{WholeReport}
-use Rattle.inspect.proofs.Pieces.{counted_all_append, joined_append, fed_append, answers_append}
+use Rattle.inspect.proofs.Pieces.{counted_all_append, fed_append, answers_append}
 
 -- The pieces one after the other.
 abbrev whole : List (List ℕ) → List ℕ
@@ -76,7 +77,7 @@ report_closed input =
     let ended = lines_in [] input in
     let last = last_line (line_after [] input) in
     sym (append_assoc (flat_map line_text ended) (flat_map line_text last) (totals (counted_all (counted_all fresh.tally ended) last)))
-    ∙ (λ i. sym (joined_append line_text ended last) i ++ totals ((sym (counted_all_append fresh.tally ended last) ∙ tallied (all_lines input)) i))
+    ∙ (λ i. sym (flat_map-append line_text ended last) i ++ totals ((sym (counted_all_append fresh.tally ended last) ∙ tallied (all_lines input)) i))
 
 pub whole_report : WholeReport
 whole_report pieces = told_whole fresh pieces ∙ report_closed (whole pieces)

@@ -1,7 +1,7 @@
 -- What is written again of a message is the message.
-use Rattle.std.proofs.Common.{◌≡◌, ℕ, ◌+◌, ◌-◌, true, false, ltb, List, ◌++◌, length, take, drop, Ok, Err, Result, sym, refl, ap, ◌∙◌, ⊎_elim, arith}
+use Rattle.std.proofs.Common.{◌≡◌, ℕ, ◌+◌, ◌-◌, true, List, ◌++◌, length, take, drop, Ok, Err, Result, refl, ap, ◌∙◌, ⊎_elim, arith}
 use Rattle.std.proofs.lemmas.List.{take_at}
-use Rattle.std.proofs.lemmas.Bool.{and_from, cases_Bool, le-leb, ltb-false}
+use Rattle.std.proofs.lemmas.Bool.{cases_Bool}
 use Rattle.transcribe.specs.declared.TranscribeError.{TranscribeError}
 use Rattle.message.specs.Message.{Parsed, refused, message, parse}
 use Rattle.message.specs.Writing.{fits}
@@ -26,15 +26,3 @@ module _ (d buffer : List ℕ) where
 
   pub written_again : (after : List ℕ) (size : ℕ) → Ok size ≡ transcribe_answer d buffer → after ≡ transcribed d buffer → (is_message (parse d) ≡ true) × (take (size - 0) (drop 0 after) ≡ d)
   written_again after size e b = written after size (parse d) e b
-
-  unwritten : (why : TranscribeError) (p : Parsed) → fits buffer (length d) ≡ true → Err why ≡ answer_for d buffer p → false ≡ is_message p
-  unwritten why (refused r) room e = refl
-  unwritten why (message m) room e = absurd (never_both (length d) why (sym (rw room at e)))
-
-  -- A datagram that is not written again is not a message, since the buffer has room for every message.
-  pub not_written : (why : TranscribeError) → length buffer ≡ 480 → Err why ≡ transcribe_answer d buffer → false ≡ is_message (parse d)
-  not_written why room e = ⊎_elim
-      (λ t. rw t)
-      (λ t. let short = ltb-false 480 (length d) t in
-      unwritten why (parse d) (and_from _ _ (le-leb (length d) (length buffer) (omega arith)) (le-leb (length d) 480 short)) e)
-      (cases_Bool (ltb 480 (length d)))

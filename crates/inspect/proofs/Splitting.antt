@@ -3,7 +3,7 @@ use Rattle.std.proofs.Common.{◌≡◌, ℕ, eqb, List, [], ◌∷◌, ◌++◌
 use Rattle.std.specs.List.{flat_map, AllByRecursion}
 use Rattle.std.proofs.ByRecursion.{All-push}
 use Rattle.std.proofs.lemmas.Bool.{cases_Bool, eqb-true, eqb-false}
-use Rattle.inspect.specs.Fields.{line_feed}
+use Rattle.text.specs.Lines.{line_feed}
 use Rattle.inspect.specs.Lines.{lines_in, line_after}
 use Rattle.inspect.specs.Laws.{SplitAtLineFeeds}
 

@@ -3,7 +3,7 @@ use Rattle.std.specs.Prelude.{ℕ, ◌+◌, ◌-◌, ◌^◌, min, List, [], ◌
 use Rattle.inspect.specs.declared.datagram.LineKind.{LineKind}
 use Rattle.inspect.specs.declared.datagram.LineKind.TheVariants.{Message, Fault, Other}
 use Rattle.inspect.specs.declared.stream.Tally.{Tally}
-use Rattle.inspect.specs.Fields.{line_feed}
+use Rattle.text.specs.Lines.{line_feed}
 use Rattle.inspect.specs.Line.{line_kind}
 
 -- A count has 64 bits, and stays at the largest number once it is there.
@@ -41,6 +41,10 @@ how_many kind (line ∷ lines) = same_kind kind (line_kind line) + how_many kind
 abbrev pub tally_of : List (List ℕ) → Tally
 tally_of lines = record { messages = at_most (how_many Message lines); faults = at_most (how_many Fault lines); others = at_most (how_many Other lines) }
 
+-- The counts as text.
+abbrev pub tally_text : Tally → List ℕ
+tally_text t = codes "messages " ++ decimal t.messages ++ codes " faults " ++ decimal t.faults ++ codes " others " ++ decimal t.others
+
 -- The last line of the output.
 abbrev pub totals : Tally → List ℕ
-totals t = codes "messages " ++ decimal t.messages ++ codes " faults " ++ decimal t.faults ++ codes " others " ++ decimal t.others ++ line_feed
+totals t = tally_text t ++ line_feed

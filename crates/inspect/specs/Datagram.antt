@@ -9,7 +9,8 @@ use Rattle.message.specs.Options.{OptionList, broken, ended, options_from, paylo
 use Rattle.message.specs.Message.{Parsed, refused, message}
 use Rattle.inspect.specs.declared.datagram.LineKind.{LineKind}
 use Rattle.inspect.specs.declared.datagram.LineKind.TheVariants.{Message, Fault as Faulty, Other}
-use Rattle.inspect.specs.Fields.{line_feed, bytes_text, head_text}
+use Rattle.text.specs.Lines.{line_feed}
+use Rattle.inspect.specs.Fields.{bytes_text, head_text}
 use Rattle.inspect.specs.Options.{options_text}
 
 abbrev pub is_message : Parsed → Bool
@@ -29,11 +30,15 @@ opened_text d (opens h at) = filled_text d h (options_from d at 0)
 abbrev pub message_text : List ℕ → Result (List ℕ) Rejection
 message_text d = opened_text d (opening d)
 
+-- Why a datagram is not a message, as text.
+abbrev pub rejection_line : Rejection → List ℕ
+rejection_line TooLong = codes "refused 3"
+rejection_line NotCoap = codes "silent 10"
+rejection_line (Fault f) = codes "fault " ++ decimal (cause_of f) ++ codes " " ++ decimal (place_of f)
+
 -- The line of a datagram that is not a message, and what the datagram is.
 abbrev pub rejection_text : Rejection → List ℕ
-rejection_text TooLong = codes "refused 3" ++ line_feed
-rejection_text NotCoap = codes "silent 10" ++ line_feed
-rejection_text (Fault f) = codes "fault " ++ decimal (cause_of f) ++ codes " " ++ decimal (place_of f) ++ line_feed
+rejection_text why = rejection_line why ++ line_feed
 
 abbrev pub rejection_kind : Rejection → LineKind
 rejection_kind TooLong = Other

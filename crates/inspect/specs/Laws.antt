@@ -4,7 +4,7 @@ use Rattle.std.specs.List.{flat_map, AllByRecursion}
 use Rattle.message.specs.declared.fault.Rejection.{Rejection}
 use Rattle.message.specs.Message.{parse}
 use Rattle.transcribe.specs.Transcribing.{validity}
-use Rattle.inspect.specs.Fields.{line_feed}
+use Rattle.text.specs.Lines.{line_feed}
 use Rattle.inspect.specs.Datagram.{message_text}
 use Rattle.inspect.specs.Lines.{lines_in, line_after}
 use Rattle.inspect.specs.Stream.{State, report, fed, fresh, answers, told}

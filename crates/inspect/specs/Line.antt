@@ -3,7 +3,7 @@ use Rattle.std.specs.Prelude.{ℕ, List, ◌++◌, Some, None, codes, Option}
 use Rattle.text.specs.Hex.{hex_bytes}
 use Rattle.inspect.specs.declared.datagram.LineKind.{LineKind}
 use Rattle.inspect.specs.declared.datagram.LineKind.TheVariants.{Other}
-use Rattle.inspect.specs.Fields.{line_feed}
+use Rattle.text.specs.Lines.{line_feed}
 use Rattle.inspect.specs.Datagram.{datagram_text, datagram_kind}
 
 -- The answer to the bytes that a line of input writes, where it writes any, and what the line is.

@@ -3,7 +3,6 @@
 #![tactic(auto)]
 
 mod datagram;
-mod error;
 mod fields;
 mod line;
 mod options;

@@ -10,7 +10,8 @@ use register::path::Path;
 use register::resource::Resource;
 use register::values::{ChangeAnswer, ChangeRequest, Moment, ReadAnswer};
 
-// Answers a read from an entry while that is fresh. Every change empties the cache.
+// Answers a read from an entry while that is fresh. Every change empties the cache. An array of entries and no map, since
+// the server has no heap.
 #[derive(Drop)]
 pub struct Cache<R> {
     below: R,
@@ -48,7 +49,7 @@ impl<R: Resource> Resource for Cache<R> {
     }
 
     fn change(&mut self, request: &ChangeRequest, moment: Moment) -> ChangeAnswer {
-        self.entries = [CacheEntry::empty(); 8];
+        self.entries.fill(CacheEntry::empty());
         self.below.change(request, moment)
     }
 }

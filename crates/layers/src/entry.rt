@@ -1,6 +1,7 @@
 // The entries of a cache, and how they are searched, chosen and replaced.
 ghost use Rattle.std.specs.Prelude.{◌≡◌, ◌<◌, true, false, ◌&&◌, length, Some, None, nat_le};
 ghost use Rattle.register.specs.Model.{segments_of, read_of};
+ghost use Rattle.register.specs.Values.{same_path};
 ghost use Rattle.register.specs.Cached.{answers_at, entry_for, entry_place, from_entries, from_entry, hit, holds, is_content, kept_after, no_entry};
 ghost use Rattle.layers.specs.Entries.{entry_of, entries_of};
 
@@ -10,8 +11,8 @@ use register::place::{Expiring, place};
 use register::values::{Moment, ReadAnswer, ReadCode};
 
 // A content that was read: its path and body, the moment at which it was stored, and the moment up to which it is
-// fresh. An empty place has expiry 0.
-#[derive(Clone, Copy)]
+// fresh. An empty place has expiry 0: the place rule asks this of it, so an `Option` would only say it a second time.
+#[derive(Clone, Copy, PartialEq, Eq, Debug)]
 pub struct CacheEntry {
     path: Path,
     body: Bytes<256>,
@@ -53,18 +54,25 @@ impl CacheEntry {
         }
     }
 
+    // Whether it is of the path. An empty place is of the path of no segment.
+    fn is_of(&self, path: &Path) -> bool
+        ensures { result ≡ same_path (entry_of self.now).path (segments_of path.now) }
+    {
+        self.path == *path
+    }
+
     // Whether it answers a read of the path at this time.
     fn is_fresh(&self, path: &Path, ms: u64) -> bool
         ensures { result ≡ answers_at (segments_of path.now) ms (entry_of self.now) }
     {
-        self.path == *path && (self.stored <= ms && ms < self.expiry)
+        self.is_of(path) && (self.stored <= ms && ms < self.expiry)
     }
 
     // Whether it is an entry of the path, fresh or not.
     fn is_for(&self, path: &Path) -> bool
         ensures { result ≡ holds (segments_of path.now) (entry_of self.now) }
     {
-        0 < self.expiry && self.path == *path
+        0 < self.expiry && self.is_of(path)
     }
 
     // Its body, with the whole seconds that are left.
@@ -72,11 +80,7 @@ impl CacheEntry {
         ensures { read_of result ≡ from_entry (entry_of self.now) ms }
     {
         let seconds = self.expiry.saturating_sub(ms) / 1000;
-        ReadAnswer {
-            code: ReadCode::Content,
-            body: self.body,
-            max_age: seconds.min(u64::from(u32::MAX)) as u32,
-        }
+        ReadAnswer::content(self.body, u32::try_from(seconds).unwrap_or(u32::MAX))
     }
 }
 
@@ -84,35 +88,27 @@ impl CacheEntry {
 pub fn find(entries: &[CacheEntry], path: &Path, ms: u64) -> Option<ReadAnswer>
     ensures { elim result [ Some x ↦ (hit (segments_of path.now) ms (entries_of entries.now) ≡ true) × (read_of x ≡ from_entries (segments_of path.now) ms (entries_of entries.now)) | None ↦ hit (segments_of path.now) ms (entries_of entries.now) ≡ false ] }
 {
-    for entry in entries {
-        if entry.is_fresh(path, ms) {
-            return Some(entry.answer(ms));
-        }
-    }
-    None
+    let entry = entries.iter().find(|entry| entry.is_fresh(path, ms))?;
+    Some(entry.answer(ms))
 }
 
-// The place for a new entry of the path: that of an entry of the same path, or else the one that expires first.
+// The place for a new entry of the path: that of an entry of the same path, or else the one that expires first. (What the
+// closure of an `unwrap_or_else` gives is out of the prover's reach.)
 fn place_for(entries: &[CacheEntry], path: &Path) -> usize
     ensures value { result ≡ entry_place (segments_of path.now) (entries_of entries.now) }
     ensures within { 0 < length entries.now → result < length entries.now }
 {
-    for (i, entry) in entries.iter().enumerate() {
-        if entry.is_for(path) {
-            return i;
-        }
+    match entries.iter().position(|entry| entry.is_for(path)) {
+        Some(i) => i,
+        None => place(entries),
     }
-    place(entries)
 }
 
 // Whether an answer is kept: a content that stays true for a second at least.
 fn is_kept(answer: &ReadAnswer) -> bool
     ensures { result ≡ (is_content (read_of answer.now).shown.code && nat_le 1 (read_of answer.now).max_age) }
 {
-    match answer.code {
-        ReadCode::Content => answer.max_age >= 1,
-        ReadCode::NotFound => false,
-    }
+    answer.code == ReadCode::Content && answer.max_age >= 1
 }
 
 // Keeps what was read at the moment, where it is to be kept.

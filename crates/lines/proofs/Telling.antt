@@ -7,7 +7,8 @@ use Rattle.std.specs.List.{AllByRecursion}
 use Rattle.text.proofs.Trips.{hex_round_trip}
 use Rattle.text.specs.Hex.{hex_bytes, hex_text}
 use Rattle.server.specs.Calls.{Reply, Silent, Refused, Tallied, Counts}
-use Rattle.lines.specs.Lines.{line_feed, number_line, reply_line, tally_line}
+use Rattle.text.specs.Lines.{line_feed}
+use Rattle.lines.specs.Lines.{number_text, answer_line}
 use Rattle.lines.specs.Laws.{Fitting, LinesTellAnswersApart}
 
 -- No character comes before the digit 0, so none is a blank or a line feed.
@@ -38,23 +39,23 @@ number_parted s low m n r q fm fn e =
     let p = parted s low (decimal m) (decimal n) r q (dark_decimal m fm) (dark_decimal n fn) e in
     (decimal_injective m n fm fn p.0, p.1)
 
-same_reply : (a b : List ℕ) → AllByRecursion (λ c. c < 256) a → AllByRecursion (λ c. c < 256) b → reply_line a ≡ reply_line b → a ≡ b
+same_reply : (a b : List ℕ) → AllByRecursion (λ c. c < 256) a → AllByRecursion (λ c. c < 256) b → answer_line (Reply a) ≡ answer_line (Reply b) → a ≡ b
 same_reply a b fa fb e =
     let t = append_cancel_right (hex_text a) (hex_text b) line_feed (append_cancel_left (codes "reply ") (hex_text a ++ line_feed) (hex_text b ++ line_feed) e) in
     let same : Some a ≡ Some b = sym (hex_round_trip a fa) ∙ ap hex_bytes t ∙ hex_round_trip b fb in
     cc
 
-same_number : (word : List ℕ) (m n : ℕ) → m < 2 ^ 64 → n < 2 ^ 64 → number_line word m ≡ number_line word n → m ≡ n
+same_number : (word : List ℕ) (m n : ℕ) → m < 2 ^ 64 → n < 2 ^ 64 → number_text word m ++ line_feed ≡ number_text word n ++ line_feed → m ≡ n
 same_number word m n fm fn e = (number_parted 10 (omega arith) m n [] [] fm fn (append_cancel_left word (decimal m ++ line_feed) (decimal n ++ line_feed) (simp append_assoc at e))).0
 
 -- A tally's line after its word.
 abbrev counts_text : Counts → List ℕ
 counts_text c = decimal c.done ++ 32 ∷ (decimal c.repeated ++ 32 ∷ (decimal c.silenced ++ 32 ∷ (decimal c.dropped ++ line_feed)))
 
-tally_line_is : (c : Counts) → tally_line c ≡ codes "tally " ++ counts_text c
+tally_line_is : (c : Counts) → answer_line (Tallied c) ≡ codes "tally " ++ counts_text c
 tally_line_is c = simp append_assoc
 
-same_counts : (a b : Counts) → Fitting (Tallied a) → Fitting (Tallied b) → tally_line a ≡ tally_line b → a ≡ b
+same_counts : (a b : Counts) → Fitting (Tallied a) → Fitting (Tallied b) → answer_line (Tallied a) ≡ answer_line (Tallied b) → a ≡ b
 same_counts a b fa fb e =
     let counts = append_cancel_left (codes "tally ") (counts_text a) (counts_text b) (sym (tally_line_is a) ∙ e ∙ tally_line_is b) in
     let done = number_parted 32 (omega arith) a.done b.done _ _ fa.0 fb.0 counts in

@@ -1,19 +1,12 @@
 -- What writes to a part of a buffer leave, and when they are accepted.
 use Rattle.std.proofs.Common.{◌≡◌, ℕ, ◌+◌, ◌-◌, ◌*◌, ◌/◌, ◌%◌, ◌<◌, ◌≤◌, List, [], ◌∷◌, ◌++◌, length, take, drop, Ok, sym, refl, ap, ◌∙◌, append_assoc, add-zero, zero-add, arith, length-append, length-drop, take-append-drop, length-take, length-take-le}
-use borrow.Rule.Slice.PartMut.{put_mid}
 use Rattle.std.proofs.lemmas.List.{drop-drop, take_at, drop_at}
 use Rattle.std.proofs.lemmas.Bool.Decides.{nat_tests}
 use Rattle.message.specs.declared.writer.Stage.{Stage}
 use Rattle.message.specs.declared.writer.Stage.TheVariants.{Complete}
 use Rattle.message.specs.Header.{Head, type_bits}
 use Rattle.message.specs.Encoding.{Field, nibble, further, head_bytes, option_bytes, payload_bytes}
-use Rattle.message.specs.Writing.{laid, State, added, beginning, following, start_answer, option_answer, payload_answer, stage_after, payload_added}
-
--- a write through a part of the buffer
-pub laid_part : (n k : ℕ) (buffer ys bs : List ℕ) → ys ≡ bs → k ≡ n + length bs - n → put_mid n k buffer ys ≡ laid buffer n bs
-laid_part n k buffer ys bs e h =
-    let z : k ≡ length bs = omega arith in
-    (λ i. take n buffer ++ (e i ++ drop (z i) (drop n buffer))) ∙ ap (λ t. take n buffer ++ (bs ++ t)) (drop-drop (length bs) n buffer)
+use Rattle.message.specs.Writing.{laid, State, added, beginning, following, started, headed, start_answer, option_answer, payload_answer, stage_after}
 
 laid_none : (n : ℕ) (buffer bs : List ℕ) → bs ≡ [] → buffer ≡ laid buffer n bs
 laid_none n buffer bs e =
@@ -38,30 +31,31 @@ length_laid n buffer bs h = simp (length-append, length-take, length-drop) (omeg
 pub added_none : (w : State) (bs : List ℕ) → bs ≡ [] → w ≡ added w bs
 added_none w bs e =
     let len : w.len ≡ w.len + length bs = sym (ap (λ l. w.len + length l) e ∙ add-zero w.len) in
-    λ i. record { buffer = laid_none w.len w.buffer bs e i; len = len i; number = w.number; stage = w.stage }
+    λ i. record { lender = w.lender; buffer = laid_none w.len w.buffer bs e i; len = len i; number = w.number; stage = w.stage }
 
 -- one write after another
 pub added_added : (w : State) (xs ys : List ℕ) → w.len ≤ length w.buffer → added (added w xs) ys ≡ added w (xs ++ ys)
 added_added w xs ys h =
     let len : w.len + length xs + length ys ≡ w.len + length (xs ++ ys) = omega (arith, length-append xs ys) in
-    λ i. record { buffer = laid_laid w.len (w.len + length xs) w.buffer xs ys h refl i; len = len i; number = w.number; stage = w.stage }
+    λ i. record { lender = w.lender; buffer = laid_laid w.len (w.len + length xs) w.buffer xs ys h refl i; len = len i; number = w.number; stage = w.stage }
 
 -- a second write to a writer that has had a first one
 pub added_then : (v w u : State) (xs ys : List ℕ) → v ≡ added w xs → u ≡ added v ys → w.len ≤ length w.buffer → u ≡ added w (xs ++ ys)
 added_then v w u xs ys e f h = f ∙ ap (λ s. added s ys) e ∙ added_added w xs ys h
 
-pub option_size : (before : ℕ) (o : Field) → length (option_bytes before o) ≡ 1 + length (further (o.number - before)) + length (further (length o.value)) + length o.value
-option_size before o = simp length-append (omega arith)
-
 -- a writer that begins at the front of its buffer
 abbrev pub rewound : State → State
-rewound w = record { buffer = w.buffer; len = 0; number = w.number; stage = w.stage }
+rewound w = record { lender = w.lender; buffer = w.buffer; len = 0; number = w.number; stage = w.stage }
+
+-- a writer once the header and the token are laid
+abbrev pub head_ended : State → Head → State
+head_ended w h = record { lender = w.lender; buffer = w.buffer; len = w.len; number = 0; stage = headed h.code }
 
 -- four bytes of a header and a token
-pub start_done : (w v u : State) (h : Head) (first high low : ℕ) → v ≡ added (rewound w) (first ∷ (h.code ∷ (high ∷ (low ∷ [])))) → u ≡ added v h.token → first ≡ 64 + type_bits h.type * 16 + length h.token → high ≡ h.id / 256 → low ≡ h.id % 256 → (u.buffer ≡ laid w.buffer 0 (head_bytes h)) × (u.len ≡ length (head_bytes h))
+pub start_done : (w v u : State) (h : Head) (first high low : ℕ) → v ≡ added (rewound w) (first ∷ (h.code ∷ (high ∷ (low ∷ [])))) → u ≡ added v h.token → first ≡ 64 + type_bits h.type * 16 + length h.token → high ≡ h.id / 256 → low ≡ h.id % 256 → head_ended u h ≡ started w h
 start_done w v u h first high low e f a b c =
     let g : u ≡ added (rewound w) (head_bytes h) = added_then v (rewound w) u (first ∷ (h.code ∷ (high ∷ (low ∷ [])))) h.token e f (omega arith) ∙ ap (added (rewound w)) (λ i. a i ∷ (h.code ∷ (b i ∷ (c i ∷ h.token)))) in
-    (ap (λ s. s.buffer) g, ap (λ s. s.len) g ∙ zero-add (length (head_bytes h)))
+    ap (λ s. head_ended s h) g ∙ (λ i. record { lender = w.lender; buffer = laid w.buffer 0 (head_bytes h); len = zero-add (length (head_bytes h)) i; number = 0; stage = headed h.code })
 
 -- the four parts of an option
 pub option_done : (w w₁ w₂ w₃ w₄ : State) (o : Field) (first : ℕ) → w.len ≤ length w.buffer → first ≡ nibble (o.number - w.number) * 16 + nibble (length o.value) → w₁ ≡ added w (first ∷ []) → w₂ ≡ added w₁ (further (o.number - w.number)) → w₃ ≡ added w₂ (further (length o.value)) → w₄ ≡ added w₃ o.value → w₄ ≡ added w (option_bytes w.number o)
@@ -85,17 +79,9 @@ pub payload_accepted : (w : State) (p : List ℕ) → Ok tt ≡ following w.stag
 payload_accepted w [] f r l = refl
 payload_accepted w (b ∷ bs) f r l = grind (arith, nat_tests)
 
-pub payload_empty : (w : State) (p : List ℕ) → length p ≡ 0 → (Ok tt ≡ payload_answer w p) × (w ≡ payload_added w p)
-payload_empty w [] e = (refl, added_none w [] refl)
-payload_empty w (b ∷ bs) e = absurd (omega arith)
-
 pub payload_some : (w v u : State) (p : List ℕ) → 0 < length p → w.len ≤ length w.buffer → v ≡ added w (255 ∷ []) → u ≡ added v p → u ≡ added w (payload_bytes p)
 payload_some w v u [] some h e f = absurd (omega arith)
 payload_some w v u (b ∷ bs) some h e f = added_then v w u (255 ∷ []) (b ∷ bs) e f h
-
-pub payload_size : (p : List ℕ) → 0 < length p → length (payload_bytes p) ≡ 1 + length p
-payload_size [] h = absurd (omega arith)
-payload_size (b ∷ bs) h = omega arith
 
 pub stage_some : (p : List ℕ) (s : Stage) → 0 < length p → Complete ≡ stage_after p s
 stage_some [] s h = absurd (omega arith)

@@ -1,13 +1,8 @@
 -- What an option byte and what follows it give where nothing is at fault.
-use Rattle.std.proofs.Common.{◌≡◌, ℕ, ◌+◌, ◌-◌, ◌/◌, ◌%◌, ◌<◌, ◌≤◌, false, eqb, List, [], ◌∷◌, length, get_or, take, drop, sym, refl, ◌∙◌, arith, length-drop, length-take-le}
-use Rattle.std.proofs.lemmas.List.{take_all}
-use Rattle.std.proofs.lemmas.Bool.{ne_eqb}
+use Rattle.std.proofs.Common.{◌≡◌, ℕ, ◌+◌, ◌≤◌, List, length, take, drop, sym, refl, ◌∙◌, arith}
 use Rattle.message.specs.declared.fault.OptionFault.{OptionFault}
-use Rattle.message.specs.Options.{ReadOption, kind_of, extension_size, extended, fault, closed, item, opened, step}
-use Rattle.message.specs.Reading.{field_of, read_option}
+use Rattle.message.specs.Options.{ReadOption, kind_of, extension_size, extended, fault, closed, item, opened}
 use Rattle.std.proofs.lemmas.Bool.Decides.{nat_tests}
-use Rattle.message.specs.declared.option.MessageOption.{MessageOption}
-use Rattle.message.specs.declared.option.MessageOption.TheVariants.{Host, Port, Path, Proxy, Ignored, Unknown}
 
 -- an option in place: its head is `head` bytes after the option byte, and its value `len` bytes
 pub record Sound (before delta len number head size : ℕ) (body : List ℕ) : Type 0 where
@@ -21,32 +16,6 @@ pub record Sound (before delta len number head size : ℕ) (body : List ℕ) : T
 
 pub opened_item : (at before delta len number head size : ℕ) (body : List ℕ) → Sound before delta len number head size body → opened at before delta len body ≡ item (record { kind = kind_of before number size; number = number; place = at + 1 + head; value = take size (drop head body) }) (at + 1 + head + size)
 opened_item at before delta len number head size body s = grind (arith, nat_tests)
-
--- the same of what the reader made of it
-pub opened_as : (at before delta len number head size : ℕ) (body value : List ℕ) (o : ReadOption) → Sound before delta len number head size body → value ≡ take (head + size - head) (drop head body) → o ≡ record { kind = kind_of before number (length value); number = number; place = at + 1 + head; value = value } → item o (at + 1 + head + size) ≡ opened at before delta len body
-opened_as at before delta len number head size body value o s v e =
-    let back : head + size - head ≡ size = omega arith in
-    let w = s.whole in
-    let long : length (take size (drop head body)) ≡ size = length-take-le size (drop head body) (simp length-drop (omega arith)) in
-    let is : value ≡ take size (drop head body) = rw back at v in
-    let done = opened_item at before delta len number head size body s in
-    cc
-
--- a rest that begins with an option byte, cut as a slice pattern cuts it
-pub step_cons : (at before : ℕ) (rest : List ℕ) → 0 < length rest → (get_or rest 0 0 ≡ 255 → ⊥) → opened at before (get_or rest 0 0 / 16) (get_or rest 0 0 % 16) (take (length rest - 1) (drop 1 rest)) ≡ step at before rest
-step_cons at before [] h ne = absurd (omega arith)
-step_cons at before (b ∷ body) h ne =
-    let all : take (length (b ∷ body) - 1) body ≡ body = take_all _ body (omega arith) in
-    let t : eqb b 255 ≡ false = ne_eqb b 255 ne in
-    rw (all, t)
-
-pub field_number : (o : MessageOption) → (field_of o).number ≡ (read_option o).number
-field_number (Host f) = refl
-field_number (Port f) = refl
-field_number (Path f) = refl
-field_number (Proxy f) = refl
-field_number (Ignored f) = refl
-field_number (Unknown f) = refl
 
 same_item : (o p : ReadOption) (a b : ℕ) → item o a ≡ item p b → o ≡ p
 same_item o p a b e = cc

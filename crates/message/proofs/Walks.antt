@@ -7,7 +7,7 @@ use Rattle.message.specs.declared.fault.OptionFault.TheVariants.{NoPayload}
 use Rattle.message.specs.declared.fault.MessageFault.{MessageFault}
 use Rattle.message.specs.declared.fault.MessageFault.TheVariants.{InOption}
 use Rattle.message.specs.declared.reader.Reader.{Reader}
-use Rattle.message.specs.Reading.{next_answer, step_of, options_of, moved_by, payload_after}
+use Rattle.message.specs.Reading.{next_answer, step_of, options_of, Moved, payload_after}
 use Rattle.message.proofs.Opened.{opened_came, never, never_fault}
 
 -- an option takes a byte at least, and ends within the datagram
@@ -81,7 +81,7 @@ Turn r q (Ok (Some o)) = Drew r q o
 Turn r q (Ok None) = Stopped r q
 Turn r q (Err why) = (f : OptionFault) × (options_of r ≡ broken f) × (why ≡ InOption f)
 
-turn_at : (r q : Reader) (s : Step) → step_of r ≡ s → q ≡ moved_by s r → Turn r q (next_answer s)
+turn_at : (r q : Reader) (s : Step) → step_of r ≡ s → Moved s r q → Turn r q (next_answer s)
 turn_at r q (fault f) e m = (f, walk_step r.datagram.now r.at r.number ∙ ap (onward r.at (λ o after. walk (length r.datagram.now) r.datagram.now after o.number)) e, refl)
 turn_at r q closed e m = record { left = walk_step r.datagram.now r.at r.number ∙ ap (onward r.at (λ o after. walk (length r.datagram.now) r.datagram.now after o.number)) e; same = m }
 turn_at r q (item o after) e m =
@@ -91,14 +91,14 @@ turn_at r q (item o after) e m =
     walk_step d r.at r.number ∙ ap (onward r.at (λ o after. walk (length d) d after o.number)) e
     ∙ ap (more o) (walk_enough (length d) (length d + 1) after o.number d (omega (arith, p.0, p.1, length-drop r.at d)) (omega arith)) in
     record {
-      left = rest ∙ sym (ap (λ q. more o (options_of q)) m);
-      same = ap (λ q. q.datagram) m;
-      number = ap (λ q. q.number) m;
-      forward = omega (arith, p.0, ap (λ q. q.at) m);
-      inside = omega (arith, p.1, length-drop r.at d, ap (λ q. q.at) m);
+      left = rest ∙ sym (λ i. more o (options_from (m.0 i).now (m.1 i) (m.2 i)));
+      same = m.0;
+      number = m.2;
+      forward = omega (arith, p.0, m.1);
+      inside = omega (arith, p.1, length-drop r.at d, m.1);
     }
 
-pub turn : (r q : Reader) (a : Result (Option ReadOption) MessageFault) → a ≡ next_answer (step_of r) → q ≡ moved_by (step_of r) r → Turn r q a
+pub turn : (r q : Reader) (a : Result (Option ReadOption) MessageFault) → a ≡ next_answer (step_of r) → Moved (step_of r) r q → Turn r q a
 turn r q a e m = subst (Turn r q) (sym e) (turn_at r q (step_of r) refl m)
 
 pub payload_more : (d : List ℕ) (o : ReadOption) (l : OptionList) → payload_after d l ≡ payload_after d (more o l)

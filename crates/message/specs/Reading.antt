@@ -1,5 +1,5 @@
 -- What the reader answers, in the words of the definitions.
-use Rattle.std.specs.Prelude.{ℕ, List, drop, Some, None, Ok, Err, Option, Result}
+use Rattle.std.specs.Prelude.{◌≡◌, ℕ, List, drop, Some, None, Ok, Err, Option, Result}
 use Rattle.message.specs.declared.fault.OptionFault.{OptionFault}
 use Rattle.message.specs.declared.fault.MessageFault.{MessageFault}
 use Rattle.message.specs.declared.fault.MessageFault.TheVariants.{InOption}
@@ -64,10 +64,10 @@ abbrev pub options_of : Reader → OptionList
 options_of r = options_from r.datagram.now r.at r.number
 
 -- a reader after a step: it stays where it is at a fault and at the end
-abbrev pub moved_by : Step → Reader → Reader
-moved_by (fault f) r = r
-moved_by closed r = r
-moved_by (item o after) r = record { datagram = r.datagram; at = after; number = o.number }
+abbrev pub Moved : Step → Reader → Reader → Type 0
+Moved (fault f) r q = q ≡ r
+Moved closed r q = q ≡ r
+Moved (item o after) r q = (q.datagram ≡ r.datagram) × (q.at ≡ after) × (q.number ≡ o.number)
 
 -- the payload behind the options of a datagram
 abbrev pub payload_after : List ℕ → OptionList → Result (List ℕ) MessageFault

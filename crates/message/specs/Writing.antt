@@ -1,5 +1,5 @@
 -- What the writer does to its buffer, and when it refuses.
-use Rattle.std.specs.Prelude.{ℕ, ◌+◌, Bool, cond, not, ◌&&◌, List, [], ◌∷◌, ◌++◌, length, take, drop, Ok, Err, Result, ◌==◌, nat_le, nat_lt}
+use Rattle.std.specs.Prelude.{◌≡◌, ℕ, ◌+◌, Bool, cond, not, ◌&&◌, List, [], ◌∷◌, ◌++◌, length, take, drop, Ok, Err, Result, ◌==◌, nat_le, nat_lt}
 use Rattle.message.specs.declared.writer.WriteError.{WriteError}
 use Rattle.message.specs.declared.writer.WriteError.TheVariants.{OutOfOrder, NoRoom, TokenTooLong, EmptyMessage}
 use Rattle.message.specs.declared.writer.Stage.{Stage}
@@ -18,22 +18,28 @@ write_number EmptyMessage = 24
 abbrev pub laid : List ℕ → ℕ → List ℕ → List ℕ
 laid buffer n bytes = take n buffer ++ (bytes ++ drop (n + length bytes) buffer)
 
--- a writer: the buffer lent to it, how many bytes of it are written, the number of the last option, and the stage
+-- a writer: who lent it its buffer, the buffer, how many bytes of it are written, the number of the last option, and
+-- the stage
 pub record State : Type 0 where
+  pub lender : ℕ
   pub buffer : List ℕ
   pub len : ℕ
   pub number : ℕ
   pub stage : Stage
 
 abbrev pub state_of : Writer → State
-state_of w = record { buffer = w.out.now; len = w.len; number = w.number; stage = w.stage }
+state_of w = record { lender = w.out.ghost_name; buffer = w.out.now; len = w.len; number = w.number; stage = w.stage }
 
-abbrev pub fresh : List ℕ → State
-fresh buffer = record { buffer = buffer; len = 0; number = 0; stage = Unstarted }
+-- a writer that has written nothing yet
+abbrev pub fresh : (lender : ℕ) (buffer : List ℕ) → State
+fresh lender buffer = record { lender = lender; buffer = buffer; len = 0; number = 0; stage = Unstarted }
+
+abbrev pub IsFresh : State → Type 0
+IsFresh w = w ≡ fresh w.lender w.buffer
 
 -- these bytes after what is written
 abbrev pub added : State → List ℕ → State
-added w bytes = record { buffer = laid w.buffer w.len bytes; len = w.len + length bytes; number = w.number; stage = w.stage }
+added w bytes = record { lender = w.lender; buffer = laid w.buffer w.len bytes; len = w.len + length bytes; number = w.number; stage = w.stage }
 
 -- whether the buffer, and the 480 bytes that a datagram may have, take this many bytes in all
 abbrev pub fits : List ℕ → ℕ → Bool
@@ -91,10 +97,10 @@ settled (Ok done) new old = new
 settled (Err why) new old = old
 
 abbrev pub started : State → Head → State
-started w h = record { buffer = laid w.buffer 0 (head_bytes h); len = length (head_bytes h); number = 0; stage = headed h.code }
+started w h = record { lender = w.lender; buffer = laid w.buffer 0 (head_bytes h); len = length (head_bytes h); number = 0; stage = headed h.code }
 
 abbrev pub option_added : State → Field → State
-option_added w o = let v = added w (option_bytes w.number o) in record { buffer = v.buffer; len = v.len; number = o.number; stage = v.stage }
+option_added w o = let v = added w (option_bytes w.number o) in record { lender = v.lender; buffer = v.buffer; len = v.len; number = o.number; stage = v.stage }
 
 -- an empty payload closes nothing
 abbrev pub stage_after : List ℕ → Stage → Stage
@@ -102,4 +108,4 @@ stage_after [] stage = stage
 stage_after (b ∷ bs) stage = Complete
 
 abbrev pub payload_added : State → List ℕ → State
-payload_added w bytes = let v = added w (payload_bytes bytes) in record { buffer = v.buffer; len = v.len; number = v.number; stage = stage_after bytes v.stage }
+payload_added w bytes = let v = added w (payload_bytes bytes) in record { lender = v.lender; buffer = v.buffer; len = v.len; number = v.number; stage = stage_after bytes v.stage }

@@ -14,6 +14,7 @@ pub enum OptionFault {
 }
 
 impl OptionFault {
+    // A `match`, since variants that hold a place can have no discriminants.
     fn cause(self) -> u8
         ensures { result ≡ option_cause self }
     {
@@ -29,10 +30,10 @@ impl OptionFault {
         ensures { result ≡ option_place self }
     {
         match self {
-            OptionFault::ReservedNibble(place) => place,
-            OptionFault::Truncated(place) => place,
-            OptionFault::NumberTooHigh(place) => place,
-            OptionFault::NoPayload(place) => place,
+            OptionFault::ReservedNibble(place)
+            | OptionFault::Truncated(place)
+            | OptionFault::NumberTooHigh(place)
+            | OptionFault::NoPayload(place) => place,
         }
     }
 }
@@ -47,7 +48,7 @@ pub enum MessageFault {
 }
 
 impl MessageFault {
-    // The number of the cause, 1 to 7.
+    // The number of the cause, 1 to 7. A `match`, since variants that hold a place can have no discriminants.
     pub fn cause(self) -> u8
         ensures { result ≡ cause_of self }
     {
@@ -90,7 +91,7 @@ pub enum Rejection {
 }
 
 impl Rejection {
-    // The number under which it is reported: 3, 10 or 11.
+    // The number under which it is reported: 3, 10 or 11. A `match`, since `Fault` holds a fault and can have none.
     pub fn number(self) -> u8
         ensures { result ≡ rejection_number self }
     {

@@ -3,9 +3,16 @@
 
 pub mod fault;
 pub mod header;
+mod nibble;
 pub mod option;
 pub mod reader;
 pub mod writer;
+
+// The most bytes that a datagram may have.
+pub const MAX_DATAGRAM: usize = 480;
+
+// The byte between the options and a payload.
+pub(crate) const PAYLOAD_MARKER: u8 = 0xFF;
 
 #[cfg(test)]
 mod tests {
@@ -33,6 +40,20 @@ mod tests {
         }
         assert!(rt; reader.next()?.is_none());
         assert_eq!(rt; reader.payload()?.len(), 0);
+        Ok(())
+    }
+
+    // Types, codes and kinds of options as text.
+    #[test]
+    fn names_and_prints(rt: HostRuntime) -> Result<(), Fail> {
+        let heap = rt.alloc();
+        assert_eq!(rt; MessageType::Ack.to_string(heap)?.as_str(), "ACK");
+        assert_eq!(rt; Code(69).to_string(heap)?.as_str(), "2.05");
+        assert_eq!(rt; Code(140).to_string(heap)?.as_str(), "4.12");
+        let datagram = [0x40, 0x01, 0x12, 0x34, 0xB1, 0x62];
+        let (_header, mut reader) = Reader::open(&datagram)?;
+        let option = reader.next()?.ok_or("no option")?;
+        assert_eq!(rt; option.kind_name(), "Path");
         Ok(())
     }
 

@@ -1,137 +1,28 @@
 // The reader: the header of a datagram, and then its options one by one. It copies nothing.
-ghost use Rattle.std.specs.Prelude.{◌≡◌, ◌+◌, ◌/◌, ◌%◌, ◌^◌, ◌<◌, ◌≤◌, length, drop, Ok, Err};
-ghost use Rattle.message.specs.Header.{opening, opens, rejected};
-ghost use Rattle.message.specs.Options.{extension_size, extended, kind_of, opened, step, payload_of};
-ghost use Rattle.message.specs.Reading.{head_of, read_option, option_step, next_step, read_answer, next_answer, step_of, options_of, moved_by, payload_after};
+ghost use Rattle.std.specs.Prelude.{◌≤◌, length};
 
 use crate::fault::{MessageFault, OptionFault, Rejection};
 use crate::header::{Code, Header, MessageType};
+use crate::nibble::{extended_size, extended_value};
 use crate::option::{MessageOption, OptionField};
+use crate::{MAX_DATAGRAM, PAYLOAD_MARKER};
 
-// The most bytes that a datagram may have.
-const MAX_DATAGRAM: usize = 480;
-
-// The byte between the options and a payload.
-const PAYLOAD_MARKER: u8 = 0xFF;
-
-// How many further bytes a nibble asks for.
-fn extended_size(nibble: u8) -> usize
-    ensures { result ≡ extension_size nibble }
-{
-    match nibble {
-        0..=12 => 0,
-        13 => 1,
-        _ => 2,
-    }
-}
-
-// The number that a nibble means, with its further bytes at the front of `more`.
-fn extended_value(nibble: u8, more: &[u8]) -> u32
-    requires { extension_size nibble ≤ length more.now }
-    ensures { result ≡ extended nibble more.now }
-{
-    match nibble {
-        0..=12 => u32::from(nibble),
-        13 => u32::from(more[0]) + 13,
-        _ => u32::from(u16::from_be_bytes([more[0], more[1]])) + 269,
-    }
-}
-
-// The option as its kind, where the option before it has the number `before`.
-fn by_kind(before: u16, field: OptionField<'_>) -> MessageOption<'_>
-    ensures { read_option result ≡ record { kind = kind_of before field.entry.number (length field.entry.value.now); number = field.entry.number; place = field.entry.place; value = field.entry.value.now } }
-{
-    let length = field.value.len();
-    let again = field.number == before;
-    match field.number {
-        11 if length <= 255 => MessageOption::Path(field),
-        3 if !again && 1 <= length && length <= 255 => MessageOption::Host(field),
-        7 if !again && length <= 2 => MessageOption::Port(field),
-        35 if !again && 1 <= length && length <= 1034 => MessageOption::Proxy(field),
-        39 if !again && 1 <= length && length <= 255 => MessageOption::Proxy(field),
-        3 | 7 | 11 | 35 | 39 => MessageOption::Unknown(field),
-        number if number % 2 == 0 => MessageOption::Ignored(field),
-        _ => MessageOption::Unknown(field),
-    }
-}
-
-// The option whose first byte stands at the place `at`, with `body` after it, and the place after the option.
-fn option_at<'a>(
-    at: usize,
-    before: u16,
-    first: u8,
-    body: &'a [u8],
-) -> Result<(MessageOption<'a>, usize), OptionFault>
-    requires { at + 1 + length body.now < 2 ^ 64 }
-    ensures { option_step result ≡ opened at before (first / 16) (first % 16) body.now }
-{
-    let delta = first / 16;
-    let len = first % 16;
-    if delta == 15 || len == 15 {
-        return Err(OptionFault::ReservedNibble(at));
-    }
-    let skip = extended_size(delta);
-    let head = skip + extended_size(len);
-    if body.len() < head {
-        return Err(OptionFault::Truncated(at + 1 + body.len()));
-    }
-    let number = u32::from(before) + extended_value(delta, body);
-    if number > 65_535 {
-        return Err(OptionFault::NumberTooHigh(at));
-    }
-    let length = extended_value(len, &body[skip..]) as usize;
-    if body.len() - head < length {
-        return Err(OptionFault::Truncated(at + 1 + body.len()));
-    }
-    let place = at + 1 + head;
-    let field = OptionField {
-        number: number as u16,
-        place,
-        value: &body[head..head + length],
-    };
-    Ok((by_kind(before, field), place + length))
-}
-
-// What stands at the place `at`, with `rest` from there on: an option and the place after it, or no further option.
-fn step_at<'a>(
-    at: usize,
-    before: u16,
-    rest: &'a [u8],
-) -> Result<Option<(MessageOption<'a>, usize)>, OptionFault>
-    requires { at + length rest.now < 2 ^ 64 }
-    ensures { next_step result ≡ step at before rest.now }
-{
-    let [first, body @ ..] = rest else {
-        return Ok(None);
-    };
-    if *first == PAYLOAD_MARKER {
-        if body.is_empty() {
-            return Err(OptionFault::NoPayload(at));
-        }
-        return Ok(None);
-    }
-    Ok(Some(option_at(at, before, *first, body)?))
-}
-
-// What stands behind the byte at the place `at`, the payload marker; nothing where the datagram has ended.
-fn behind(datagram: &[u8], at: usize) -> &[u8]
-    ensures { result.now ≡ payload_of (drop at datagram.now) }
-{
-    if at >= datagram.len() {
-        return &[];
-    }
-    &datagram[at + 1..]
-}
-
-// A datagram, the place reached in it and the number of the option before that place.
+// A datagram, the place reached in it and the number of the option before that place. It is `Copy` and keeps the whole
+// datagram, as the project's rules want of values.
 #[derive(Clone, Copy)]
 pub struct Reader<'a> {
     datagram: &'a [u8],
     at: usize,
     number: u16,
+    ghost within: { at ≤ length datagram.now },
 }
 
 impl<'a> Reader<'a> {
+    ghost use Rattle.std.specs.Prelude.{◌≡◌, ◌+◌, ◌/◌, ◌%◌, length, drop, Ok, Err};
+    ghost use Rattle.message.specs.Header.{opening, opens, rejected};
+    ghost use Rattle.message.specs.Options.{opened, payload_of};
+    ghost use Rattle.message.specs.Reading.{head_of, option_step, next_step, read_answer, next_answer, step_of, options_of, Moved, payload_after};
+
     // The header of a message and the reader of its options.
     pub fn open(datagram: &'a [u8]) -> Result<(Header<'a>, Reader<'a>), Rejection>
         ensures { elim result [ Ok p ↦ (opening datagram.now ≡ opens (head_of p.0) p.1.at) × (p.1.datagram ≡ datagram.entry) × (p.1.number ≡ 0) | Err why ↦ opening datagram.now ≡ rejected why ] }
@@ -173,15 +64,13 @@ impl<'a> Reader<'a> {
         ))
     }
 
-    // The next option, or none where the options have ended. At a fault and at the end the reader stays where it is.
+    // The next option, or none where the options have ended. At a fault and at the end the reader stays where it is. No
+    // `Iterator`, since callers leave at a fault by `?`, and a `for` would give each option as a `Result` to take apart.
     pub fn next(&mut self) -> Result<Option<MessageOption<'a>>, MessageFault>
         ensures answer { read_answer result ≡ next_answer (step_of self.old) }
-        ensures after { self.new ≡ moved_by (step_of self.old) self.old }
+        ensures after { Moved (step_of self.old) self.old self.new }
     {
-        if self.at > self.datagram.len() {
-            return Ok(None);
-        }
-        match step_at(self.at, self.number, &self.datagram[self.at..])? {
+        match self.step()? {
             None => Ok(None),
             Some((option, after)) => {
                 self.at = after;
@@ -197,6 +86,60 @@ impl<'a> Reader<'a> {
     {
         let mut rest = *self;
         while let Some(_option) = rest.next()? {}
-        Ok(behind(rest.datagram, rest.at))
+        Ok(rest.behind())
+    }
+
+    // What stands where the reader is: an option and the place after it, or no further option.
+    fn step(&self) -> Result<Option<(MessageOption<'a>, usize)>, OptionFault>
+        ensures { next_step result ≡ step_of self.now }
+    {
+        match &self.datagram[self.at..] {
+            [] => Ok(None),
+            [PAYLOAD_MARKER] => Err(OptionFault::NoPayload(self.at)),
+            [PAYLOAD_MARKER, ..] => Ok(None),
+            [first, body @ ..] => Ok(Some(self.option(*first, body)?)),
+        }
+    }
+
+    // The option whose first byte stands where the reader is, with `body` after it, and the place after the option.
+    fn option(&self, first: u8, body: &'a [u8]) -> Result<(MessageOption<'a>, usize), OptionFault>
+        requires { self.now.at + 1 + length body.now ≡ length self.now.datagram.now }
+        ensures { option_step result ≡ opened self.now.at self.now.number (first / 16) (first % 16) body.now }
+    {
+        let delta = first / 16;
+        let len = first % 16;
+        if delta == 15 || len == 15 {
+            return Err(OptionFault::ReservedNibble(self.at));
+        }
+        let skip = extended_size(delta);
+        let head = skip + extended_size(len);
+        if body.len() < head {
+            return Err(OptionFault::Truncated(self.datagram.len()));
+        }
+        let number = u32::from(self.number) + extended_value(delta, body);
+        let Ok(number) = u16::try_from(number) else {
+            return Err(OptionFault::NumberTooHigh(self.at));
+        };
+        let length = extended_value(len, &body[skip..]) as usize;
+        let Some(value) = body[head..].get(..length) else {
+            return Err(OptionFault::Truncated(self.datagram.len()));
+        };
+        let place = self.at + 1 + head;
+        let field = OptionField {
+            number,
+            place,
+            value,
+        };
+        Ok((MessageOption::by_kind(self.number, field), place + length))
+    }
+
+    // What stands behind the payload marker where the reader is; nothing where the datagram has ended.
+    fn behind(&self) -> &'a [u8]
+        ensures { result.now ≡ payload_of (drop self.now.at self.now.datagram.now) }
+    {
+        match &self.datagram[self.at..] {
+            [] => &[],
+            [_marker, payload @ ..] => payload,
+        }
     }
 }

@@ -1,27 +1,23 @@
 // The writer: a header, options one by one and a payload, into a lent buffer.
 ghost use Rattle.std.specs.Prelude.{◌≡◌, ◌+◌, ◌-◌, ◌≤◌, min, length};
-ghost use Rattle.message.specs.Encoding.{nibble, further};
+ghost use Rattle.message.specs.Encoding.{further};
 ghost use Rattle.message.specs.Writing.{write_number, headed, beginning, following, added, fresh, state_of, start_answer, option_answer, payload_answer, settled, started, option_added, payload_added};
 
-use crate::header::{Code, MessageType};
-
-// The most bytes that a datagram may have.
-const MAX_DATAGRAM: usize = 480;
-
-// The byte between the options and a payload.
-const PAYLOAD_MARKER: u8 = 0xFF;
+use crate::header::{Code, EMPTY, MessageType};
+use crate::nibble::{further_len, nibble_of};
+use crate::{MAX_DATAGRAM, PAYLOAD_MARKER};
 
 // Why the writer refuses; it then leaves everything as it was.
 #[derive(Clone, Copy, PartialEq, Eq, Debug)]
 pub enum WriteError {
     // An option number below the one before, a second header or payload, or anything out of its turn.
-    OutOfOrder,
+    OutOfOrder = 21,
     // More than the buffer or a datagram has room for.
-    NoRoom,
+    NoRoom = 22,
     // A token over 8 bytes.
-    TokenTooLong,
+    TokenTooLong = 23,
     // A token, an option or a payload in an Empty message.
-    EmptyMessage,
+    EmptyMessage = 24,
 }
 
 impl WriteError {
@@ -29,17 +25,12 @@ impl WriteError {
     pub fn number(self) -> u8
         ensures { result ≡ write_number self }
     {
-        match self {
-            WriteError::OutOfOrder => 21,
-            WriteError::NoRoom => 22,
-            WriteError::TokenTooLong => 23,
-            WriteError::EmptyMessage => 24,
-        }
+        self as u8
     }
 }
 
 // How far a message is written: nothing, the header of an Empty message, a header and options, or a payload too.
-#[derive(Clone, Copy)]
+#[derive(Clone, Copy, PartialEq, Eq, Debug)]
 enum Stage {
     Unstarted,
     Empty,
@@ -47,7 +38,9 @@ enum Stage {
     Complete,
 }
 
-// A buffer, how many bytes of it are written, the number of the last option, and the stage.
+// A buffer, how many bytes of it are written, the number of the last option, and the stage. The buffer is the host's, and
+// the server has no heap: a length stands beside it. There is no `impl Model`: with one, a caller knew nothing of what the
+// buffer holds once the writer is dropped.
 #[derive(Drop)]
 pub struct Writer<'b> {
     out: &'b mut [u8],
@@ -56,36 +49,15 @@ pub struct Writer<'b> {
     stage: Stage,
 }
 
-// The nibble that stands for `n`.
-fn nibble_of(n: usize) -> u8
-    ensures { result ≡ nibble n }
-{
-    match n {
-        0..=12 => n as u8,
-        13..=268 => 13,
-        _ => 14,
-    }
-}
-
-// How many further bytes go with it.
-fn further_len(n: usize) -> usize
-    ensures { result ≡ length (further n) }
-{
-    match n {
-        0..=12 => 0,
-        13..=268 => 1,
-        _ => 2,
-    }
-}
-
 impl Stage {
     // The stage after a header with this code.
     fn after_header(code: Code) -> Stage
         ensures { result ≡ headed code.0 }
     {
-        match code.0 {
-            0 => Stage::Empty,
-            _ => Stage::Options,
+        if code == EMPTY {
+            Stage::Empty
+        } else {
+            Stage::Options
         }
     }
 
@@ -114,8 +86,7 @@ impl Stage {
 impl<'b> Writer<'b> {
     // A writer that has written nothing yet.
     pub fn new(out: &'b mut [u8]) -> Writer<'b>
-        ensures lender { result.out.ghost_name ≡ out.entry.ghost_name }
-        ensures state { state_of result ≡ fresh out.old }
+        ensures state { state_of result ≡ fresh out.entry.ghost_name out.old }
     {
         Writer {
             out,
@@ -141,7 +112,6 @@ impl<'b> Writer<'b> {
         id: u16,
         token: &[u8],
     ) -> Result<(), WriteError>
-        ensures lender { self.new.out.ghost_name ≡ self.old.out.ghost_name }
         ensures answer { result ≡ start_answer (state_of self.old) (record { type = kind; code = code.0; id = id; token = token.now }) }
         ensures state { state_of self.new ≡ settled result (started (state_of self.old) (record { type = kind; code = code.0; id = id; token = token.now })) (state_of self.old) }
     {
@@ -149,7 +119,7 @@ impl<'b> Writer<'b> {
         if size > 8 {
             return Err(WriteError::TokenTooLong);
         }
-        if code.0 == 0 && size > 0 {
+        if code == EMPTY && size > 0 {
             return Err(WriteError::EmptyMessage);
         }
         self.stage.beginning()?;
@@ -168,7 +138,6 @@ impl<'b> Writer<'b> {
 
     // An option after those that are written.
     pub fn option(&mut self, number: u16, value: &[u8]) -> Result<(), WriteError>
-        ensures lender { self.new.out.ghost_name ≡ self.old.out.ghost_name }
         ensures answer { result ≡ option_answer (state_of self.old) (record { number = number; value = value.now }) }
         ensures state { state_of self.new ≡ settled result (option_added (state_of self.old) (record { number = number; value = value.now })) (state_of self.old) }
     {
@@ -193,7 +162,6 @@ impl<'b> Writer<'b> {
 
     // The payload. An empty one writes nothing and closes nothing.
     pub fn payload(&mut self, bytes: &[u8]) -> Result<(), WriteError>
-        ensures lender { self.new.out.ghost_name ≡ self.old.out.ghost_name }
         ensures answer { result ≡ payload_answer (state_of self.old) bytes.now }
         ensures state { state_of self.new ≡ settled result (payload_added (state_of self.old) bytes.now) (state_of self.old) }
     {
@@ -220,7 +188,6 @@ impl<'b> Writer<'b> {
     // These bytes after what is written; there is room for them.
     fn lay(&mut self, bytes: &[u8])
         requires { self.old.len + length bytes.now ≤ length self.old.out.now }
-        ensures lender { self.new.out.ghost_name ≡ self.old.out.ghost_name }
         ensures state { state_of self.new ≡ added (state_of self.old) bytes.now }
         ensures size { length self.new.out.now ≡ length self.old.out.now }
     {
@@ -234,14 +201,13 @@ impl<'b> Writer<'b> {
     fn lay_further(&mut self, n: usize)
         requires n_bound { n ≤ 65804 }
         requires n_in_bounds { self.old.len + length (further n) ≤ length self.old.out.now }
-        ensures lender { self.new.out.ghost_name ≡ self.old.out.ghost_name }
         ensures state { state_of self.new ≡ added (state_of self.old) (further n) }
         ensures size { length self.new.out.now ≡ length self.old.out.now }
     {
-        if n >= 269 {
-            self.lay(&((n - 269) as u16).to_be_bytes());
-        } else if n >= 13 {
-            self.lay(&[(n - 13) as u8]);
+        match n {
+            0..=12 => {}
+            13..=268 => self.lay(&[(n - 13) as u8]),
+            _ => self.lay(&((n - 269) as u16).to_be_bytes()),
         }
     }
 }

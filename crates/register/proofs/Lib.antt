@@ -1,3 +1,4 @@
+pub mod Equal
 pub mod Rows
 pub mod Least
 pub mod Conds

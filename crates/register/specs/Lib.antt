@@ -1,3 +1,4 @@
+pub mod Padded
 pub mod Values
 pub mod Meaning
 pub mod Places

@@ -1,11 +1,11 @@
 // Bytes held inline, at most a given number of them.
-ghost use Rattle.std.specs.Prelude.{◌≡◌, ◌<◌, ◌≤◌, [], length, take, Ok, Err, Decides};
-ghost use Rattle.register.specs.Model.{bytes_of};
-ghost use Rattle.std.specs.Str.{bytes_eq};
-ghost use Rattle.std.specs.Cmp.{on_per, partial_equiv_from_equiv};
-ghost use Rattle.std.specs.Cmp.Lexicographic.{nat_list_eq_equiv};
+ghost use Rattle.std.specs.Prelude.{◌≡◌, ◌<◌, ◌≤◌, [], length, Ok, Err};
+ghost use Rattle.register.specs.Padded.{pad};
 
-// A value that would have more or fewer bytes or segments than it may, or lie past the last moment.
+use std::marker::Model;
+
+// A value that would have more or fewer bytes or segments than it may, or lie past the last moment. One number is reported
+// for all of these, so it has no variants.
 #[derive(Clone, Copy, PartialEq, Eq, Debug)]
 pub struct ValueError;
 
@@ -18,29 +18,43 @@ impl ValueError {
     }
 }
 
-// At most N bytes: the first `len` of `bytes`, or all of them where `len` says more.
-#[derive(Clone, Copy)]
+// At most N bytes: the first `len` of `bytes`, with zeros behind them. It is no `ArrayVec`, which is not `Copy`: rows of
+// the tables, whose memory is fixed, are copied whole.
+#[derive(Clone, Copy, PartialEq, Eq, Debug)]
 pub struct Bytes<const N: usize> {
     bytes: [u8; N],
     len: usize,
 }
 
-// The bytes of `from`, and zeros after them.
-fn padded<const N: usize>(from: &[u8]) -> [u8; N]
+impl<const N: usize> Model for Bytes<N> {
+    ghost use Rattle.std.specs.Prelude.{ℕ, List, length, take};
+    ghost use Rattle.register.specs.Padded.{pad, IsPadded};
+
+    ghost Value = { List ℕ };
+
+    ghost view = { λ b. take b.len b.bytes };
+
+    ghost invariant = { λ b. IsPadded 0 N b.len b.bytes };
+
+    ghost inverse = { λ held. record { bytes = pad 0 N held; len = length held } };
+
+    ghost inverse_ok = { λ b h i. record { bytes = h.padded i; len = h.size i } };
+}
+
+// All of `from`, and the filler behind it.
+pub(crate) fn padded<T: Copy, const N: usize>(filler: T, from: &[T]) -> [T; N]
     requires { length from.now ≤ N }
-    ensures { take (length from.now) result ≡ from.now }
+    ensures { result ≡ pad filler N from.now }
 {
-    let mut bytes = [0u8; N];
-    for (i, b) in from.iter().enumerate() {
-        bytes[i] = *b;
-    }
-    bytes
+    let mut room = [filler; N];
+    room[..from.len()].copy_from_slice(from);
+    room
 }
 
 impl<const N: usize> Bytes<N> {
     // No bytes.
     pub fn empty() -> Bytes<N>
-        ensures { bytes_of result ≡ [] }
+        ensures { result ≡ [] }
     {
         Bytes {
             bytes: [0; N],
@@ -48,41 +62,23 @@ impl<const N: usize> Bytes<N> {
         }
     }
 
-    // The same bytes, where there are at most N.
+    // The same bytes, where there are at most N. (A `TryFrom` beside it would be a second name.)
     pub fn new(from: &[u8]) -> Result<Bytes<N>, ValueError>
-        ensures { elim result [ Ok b ↦ (bytes_of b ≡ from.now) × (length from.now ≤ N) | Err _ ↦ N < length from.now ] }
+        ensures { elim result [ Ok b ↦ (b ≡ from.now) × (length from.now ≤ N) | Err _ ↦ N < length from.now ] }
     {
         let len = from.len();
         if len > N {
             return Err(ValueError);
         }
-        let bytes = padded(from);
+        let bytes = padded(0, from);
         Ok(Bytes { bytes, len })
     }
 
     // What it holds.
     pub fn as_slice(&self) -> &[u8]
-        ensures value { result.now ≡ bytes_of self.now }
+        ensures value { result.now ≡ self.now }
         ensures within { length result.now ≤ N }
     {
-        let whole = &self.bytes[..];
-        if self.len < N {
-            &whole[0..self.len]
-        } else {
-            whole
-        }
-    }
-}
-
-impl<const N: usize> PartialEq for Bytes<N> {
-    ghost eq = { λ x y. bytes_eq (bytes_of x) (bytes_of y) };
-
-    ghost laws = { on_per bytes_of (partial_equiv_from_equiv nat_list_eq_equiv) };
-
-    fn eq(&self, other: &Bytes<N>) -> bool
-        ensures same { result ≡ bytes_eq (bytes_of self.now) (bytes_of other.now) }
-        ensures decides { Decides result (bytes_of self.now ≡ bytes_of other.now) }
-    {
-        self.as_slice() == other.as_slice()
+        &self.bytes[..self.len]
     }
 }

@@ -15,11 +15,6 @@ pub fn place<T: Expiring>(rows: &[T]) -> usize
     ensures first { result ≡ place_in (map T.Expiring.expiry rows.now) }
     ensures within { 0 < length rows.now → result < length rows.now }
 {
-    let mut best = 0;
-    for i in 1..rows.len() {
-        if rows[i].expires() < rows[best].expires() {
-            best = i;
-        }
-    }
-    best
+    let earliest = rows.iter().enumerate().min_by_key(|(_, row)| row.expires());
+    earliest.map_or(0, |(i, _)| i)
 }

@@ -1,3 +1,3 @@
-pub mod Ages
+pub mod Fewest
 pub mod Sending
 pub mod Sizes

@@ -1,3 +1,2 @@
-pub mod Parts
+pub mod Response
 pub mod Writing
-pub mod Replying

@@ -4,7 +4,7 @@ ghost use Rattle.message.specs.Encoding.{options_bytes};
 ghost use Rattle.message.specs.Writing.{state_of};
 ghost use Rattle.transcribe.specs.Transcribing.{Accepted, options_added};
 ghost use Rattle.server.specs.Replies.{fewest};
-ghost use Rattle.replies.specs.Parts.{age_options};
+ghost use Rattle.replies.specs.Response.{age_options};
 
 use message::writer::{WriteError, Writer};
 
@@ -18,13 +18,7 @@ const DEFAULT: u32 = 60;
 fn fewest_len(n: u32) -> usize
     ensures { result ≡ length (fewest n) }
 {
-    match n {
-        0 => 0,
-        1..=0xFF => 1,
-        0x100..=0xFFFF => 2,
-        0x1_0000..=0xFF_FFFF => 3,
-        _ => 4,
-    }
+    4 - n.leading_zeros() as usize / 8
 }
 
 // How many bytes the option has.
@@ -37,11 +31,10 @@ pub(crate) fn option_len(max_age: Option<u32>) -> usize
     }
 }
 
-// Writes the option; the writer is known to accept it.
+// Writes the option; the writer is known to accept it. (A `Result`, which is always Ok, so that callers go on by `?`.)
 pub(crate) fn write_option(writer: &mut Writer<'_>, max_age: Option<u32>) -> Result<(), WriteError>
     requires { Accepted (state_of writer.old) (age_options max_age) }
     ensures answer { result ≡ Ok tt }
-    ensures lender { writer.new.out.ghost_name ≡ writer.old.out.ghost_name }
     ensures state { state_of writer.new ≡ options_added (state_of writer.old) (age_options max_age) }
 {
     match max_age {

@@ -1,4 +1,3 @@
 pub mod Noting
-pub mod Stays
 pub mod Rules
 pub mod Tokens

@@ -2,40 +2,27 @@
 ghost use Rattle.std.specs.Prelude.{◌≡◌, slice_index};
 ghost use Rattle.message.specs.Reading.{head_of};
 ghost use Rattle.calls.specs.Model.{exchange_as};
-ghost use Rattle.server.specs.Replies.{is_con, exchange_by_head, exchange_by_bytes};
+ghost use Rattle.server.specs.Replies.{exchange_by_head, exchange_by_bytes};
 ghost use Rattle.calls.specs.Judging.{exchange};
 
 use calls::exchange::Exchange;
 use message::header::{Header, MessageType};
 use message::reader::Reader;
 
-// Whether the sender waits for an acknowledgement.
-fn is_confirmable(kind: MessageType) -> bool
-    ensures { result ≡ is_con kind }
-{
-    match kind {
-        MessageType::Con => true,
-        MessageType::Non | MessageType::Ack | MessageType::Rst => false,
-    }
-}
-
 // The byte at a place, or 0 behind the end.
 fn byte_at(datagram: &[u8], place: usize) -> u8
     ensures { result ≡ slice_index datagram.now place }
 {
-    if place < datagram.len() {
-        datagram[place]
-    } else {
-        0
-    }
+    datagram.get(place).copied().unwrap_or(0)
 }
 
 // What a reply repeats of a message with this header.
+// No `From`, which would be no plainer: both types are of other crates, and a crate writes it for a type of its own.
 fn exchange_with(header: Header<'_>) -> Exchange<'_>
     ensures { exchange_as result ≡ exchange_by_head (head_of header.entry) }
 {
     Exchange {
-        confirmable: is_confirmable(header.kind),
+        confirmable: header.kind == MessageType::Con,
         id: header.id,
         token: header.token,
     }

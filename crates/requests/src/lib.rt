@@ -23,10 +23,10 @@ mod tests {
         let expected = Path::empty()
             .push(Segment::of_byte(b'b'))?
             .push(Segment::of_byte(b'7'))?;
-        match read_request(&datagram) {
-            Ok(Asked::Read(path)) => assert!(rt; path == expected),
-            _ => return Err(Fail::new("no GET")),
-        }
+        let Ok(asked) = read_request(&datagram) else {
+            return Err(Fail::new("no GET"));
+        };
+        assert_eq!(rt; asked, Asked::Read(expected));
         let exchange = exchange_of(&datagram);
         assert!(rt; exchange.confirmable);
         assert_eq!(rt; exchange.id, 0x1234);

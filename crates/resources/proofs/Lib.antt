@@ -1,7 +1,6 @@
-pub mod Tens
 pub mod Fronts
 pub mod Searches
 pub mod Records
-pub mod Holds
+pub mod Plots
 pub mod Numbers
 pub mod Makers

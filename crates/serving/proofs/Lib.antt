@@ -1,5 +1,5 @@
+pub mod Admitting
 pub mod Arriving
 pub mod Keeping
-pub mod Replying
 pub mod Sessions
 pub mod Walks

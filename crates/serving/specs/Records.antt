@@ -10,7 +10,7 @@ use Rattle.serving.specs.declared.record.Ending.{Ending}
 use Rattle.serving.specs.declared.record.Ending.TheVariants.{Repeated, Silenced, Dropped, Done}
 
 abbrev pub key_in : Record → serving.Key
-key_in r = record { peer = r.peer; id = r.id; expiry = r.expiry }
+key_in r = record { peer = r.key.peer; id = r.key.id; expiry = r.expiry }
 
 abbrev pub record_of : Record → serving.Record
 record_of r = record { key = key_in r; reply = bytes_of r.reply }

@@ -1,14 +1,16 @@
 -- The server of the code in the words of the definitions.
-use Rattle.std.specs.Prelude.{◌≡◌, ℕ, List, ◌∷◌}
+use Rattle.std.specs.Prelude.{◌≡◌, ℕ, ◌≤◌, List, ◌∷◌}
 use Rattle.register.specs.declared.values.ChangeRequest.{ChangeRequest}
 use Rattle.register.specs.Values.{Bytes}
 use Rattle.register.specs.Meaning.{Meaning}
 use Rattle.register.specs.Model.{change_of}
 use Rattle.calls.specs.declared.answer.Answer as code
+use Rattle.calls.specs.declared.answer.Refusal.{Refusal}
 use Rattle.server.specs.Calls.{Answer, Call}
 use Rattle.server.specs.Replies.{Exchange, saying_to}
 use Rattle.server.specs.Requests.{coap}
 use Rattle.calls.specs.Judging.{exchange}
+use Rattle.calls.specs.Numbers.{refusal_number}
 use Rattle.server.specs.Settling.{Admitted, Event}
 use Rattle.server.specs.Serving as serving
 use Rattle.server.specs.Ledger.{Grouped, calls, admitted, Premises}
@@ -54,7 +56,13 @@ performed m v x peer t c = record {
 
 -- what an arrival that comes to the event e gives: the answer r, the reply buffer from `before` to `after`, and the
 -- server from v to w
-pub record Ends (m : Meaning) (v w : serving.Server m.State) (e : Event) (r : code.Answer) (before after : Bytes) : Type 0 where
+pub record Ends (m : Meaning) (v w : serving.Server m.State) (e : Event) (r : code.Answer ℕ) (before after : Bytes) : Type 0 where
   pub answer : Gives (serving.answer_event m coap v e) r
   pub buffer : after ≡ buffer_with (serving.answer_event m coap v e) before
   pub next : w ≡ serving.next_event m coap v e
+
+-- one arrival too many is refused, and the server stays as it was
+pub record TurnsAway (m : Meaning) (v w : serving.Server m.State) (why : Refusal) : Type 0 where
+  pub number : refusal_number why ≡ 4
+  pub full : 4294967295 ≤ v.accepted
+  pub same : w ≡ v

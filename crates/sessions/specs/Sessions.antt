@@ -6,8 +6,7 @@ use Rattle.resources.specs.declared.board.PlotRecord.{PlotRecord}
 use Rattle.resources.specs.declared.store.FileRecord.{FileRecord}
 use Rattle.resources.specs.Plots.{plots_of}
 use Rattle.resources.specs.Files.{records_of}
-use Rattle.office.specs.Stacks.{office_meaning, made}
-use Rattle.sessions.specs.Stacks.{plots_meaning, plots_made}
+use Rattle.office.specs.Stacks.{office_meaning, plots_meaning, made, plots_made}
 
 abbrev pub plot_table : ℕ → List PlotRecord → board.Table
 plot_table lender plots = record { lender = lender; plots = plots_of plots }

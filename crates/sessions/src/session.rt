@@ -2,15 +2,13 @@
 ghost use Rattle.std.specs.Prelude.{ℕ, Ok, Err};
 ghost use Rattle.calls.specs.Model.{calls_of, served_of};
 ghost use Rattle.serving.specs.Sessions.{Session};
-ghost use Rattle.office.specs.Stacks.{office_meaning};
+ghost use Rattle.office.specs.Stacks.{office_meaning, plots_meaning};
 ghost use Rattle.sessions.specs.Examples.{WorkedExamples};
-ghost use Rattle.sessions.specs.Stacks.{plots_meaning};
 ghost use Rattle.sessions.specs.Sessions.{office_over, plots_over};
 
-use crate::plots_stack;
 use calls::answer::Served;
 use calls::call::Call;
-use office::office_stack;
+use office::{office_stack, plots_stack};
 use resources::board::PlotRecord;
 use resources::store::FileRecord;
 use serving::session::session;
@@ -18,7 +16,7 @@ use std::alloc::{AllocError, Global};
 
 // A server that is made over the office's stack, over these tables, answers the calls in their order: each change is
 // made once, and no answer's age is hidden. (The two numbers name the lenders of the tables.) The worked examples say
-// what a server over that stack answers.
+// what a server over that stack answers. Table of plots and table of files are no struct of two: a host lends each by itself.
 pub fn office_session(
     plots: &mut [PlotRecord],
     files: &mut [FileRecord],
@@ -32,7 +30,7 @@ pub fn office_session(
     session(stack, calls, heap)
 }
 
-// The same over the stack that shows the plots alone.
+// The same over the stack that shows the plots alone. As `office_session`, it is `session` over a stack that is made first.
 pub fn plots_session(
     plots: &mut [PlotRecord],
     files: &mut [FileRecord],
@@ -48,6 +46,7 @@ pub fn plots_session(
 #[cfg(test)]
 mod tests {
     use super::*;
+    use calls::answer::Answer;
     use calls::call::Arrival;
     use std::test::Fail;
 
@@ -69,7 +68,7 @@ mod tests {
         let calls = reads_a_plot(&datagram);
         let answers = office_session(&mut plots, &mut files, &calls, rt.alloc())?;
         match answers.as_slice() {
-            [Served::Reply(reply), Served::Tallied(counts)] => {
+            [Served::Arrival(Answer::Reply(reply)), Served::Tally(counts)] => {
                 assert_eq!(rt; reply.as_slice(), [0x61, 0x45, 0x12, 0x34, 0xA1].as_slice());
                 assert_eq!(rt; counts.done, 0);
                 Ok(())
@@ -86,7 +85,7 @@ mod tests {
         let calls = reads_a_plot(&datagram);
         let answers = plots_session(&mut plots, &mut files, &calls, rt.alloc())?;
         match answers.as_slice() {
-            [Served::Reply(reply), Served::Tallied(counts)] => {
+            [Served::Arrival(Answer::Reply(reply)), Served::Tally(counts)] => {
                 assert_eq!(rt; reply.as_slice(), [0x60, 0x45, 0x00, 0x01].as_slice());
                 assert_eq!(rt; counts.done, 0);
                 Ok(())

@@ -1,4 +1,3 @@
+pub mod Digits
 pub mod Pairs
-pub mod Refusals
-pub mod Tens
 pub mod Trips

@@ -1,6 +1,6 @@
 -- How the bytes of a line come out, one character after another.
-use Rattle.std.proofs.Common.{◌≡◌, ℕ, ◌+◌, ◌*◌, ◌<◌, ◌≤◌, true, false, List, [], ◌∷◌, ◌++◌, length, get_or, drop, IfSome, Some, None, Option, sym, refl, ap, ◌∙◌, append_assoc, append-nil, arith}
-use Rattle.std.proofs.lemmas.List.{at_drop_more, at_drop_all}
+use Rattle.std.proofs.Common.{◌≡◌, ℕ, ◌+◌, ◌*◌, ◌<◌, ◌≤◌, true, false, List, [], ◌∷◌, ◌++◌, length, get_or, drop, IfSome, Some, None, Option, sym, refl, ap, ◌∙◌, append_assoc, arith}
+use Rattle.std.proofs.lemmas.List.{at_drop_more}
 use Rattle.std.proofs.lemmas.Bool.{cond-true, cond-false}
 use Rattle.std.proofs.lemmas.Bool.Decides.{nat_tests}
 use Rattle.std.specs.Option.{option_map}
@@ -53,16 +53,6 @@ pub record Sofar (line : List ℕ) (i : ℕ) (bytes : List ℕ) (high : Option �
   pub room : waiting high + length (unblanked (drop i line)) ≤ length (unblanked line)
 
 module _ {line : List ℕ} {i : ℕ} {bytes : List ℕ} {high : Option ℕ} (so : Sofar line i bytes high) where
-  -- At the end of the line no digit may be alone.
-  at_end : length line ≤ i → (o : Option ℕ) → high ≡ o → hex_bytes line ≡ after bytes (resumed o [])
-  at_end past o is = so.whole ∙ (λ j. after bytes (resumed (is j) (at_drop_all unblanked line i past j)))
-
-  pub sofar_even : length line ≤ i → high ≡ None → Some bytes ≡ hex_bytes line
-  sofar_even past is = ap (λ (l : List ℕ). Some l) (sym (append-nil bytes)) ∙ sym (at_end past None is)
-
-  pub sofar_odd : (h : ℕ) → length line ≤ i → high ≡ Some h → None ≡ hex_bytes line
-  sofar_odd h past is = sym (at_end past (Some h) is)
-
   module _ (within : i < length line) where
     pub sofar_blank : true ≡ blank (get_or line i 0) → Sofar line (i + 1) bytes high
     sofar_blank dark =
@@ -87,10 +77,6 @@ module _ {line : List ℕ} {i : ℕ} {bytes : List ℕ} {high : Option ℕ} (so 
 
       pub sofar_wrong : None ≡ digit_of (get_or line i 0) → None ≡ hex_bytes line
       sofar_wrong e = sym (at_other high refl ∙ ap (after bytes) (wrong_ends high (get_or line i 0) (unblanked (drop (i + 1) line)) (sym e)))
-
-      -- Where there is no memory for a byte, two characters came already.
-      pub sofar_refused : (h : ℕ) → high ≡ Some h → 2 ≤ length (unblanked line)
-      sofar_refused h is = omega (arith, room_other (Some h) is)
 
       pub sofar_first : (d : ℕ) → Some d ≡ digit_of (get_or line i 0) → high ≡ None → Sofar line (i + 1) bytes (Some d)
       sofar_first d e is = record {

@@ -1,9 +1,10 @@
 // Bytes written in hexadecimal: two digits to a byte, the high one first.
-ghost use Rattle.std.specs.Prelude.{◌≡◌, ◌+◌, ◌*◌, ◌<◌, ◌≤◌, true, ◌++◌, length, is_ok, if◌then◌else◌, vec_items, vec_len, vec_capacity, MatchResult};
+ghost use Rattle.std.specs.Prelude.{◌≡◌, ◌+◌, ◌*◌, ◌<◌, ◌≤◌, ◌/◌, ◌%◌, true, [], ◌∷◌, ◌++◌, length, is_ok, if◌then◌else◌, vec_items, vec_len, vec_capacity, MatchResult, Some};
 ghost use Rattle.std.specs.Option.{option_map};
 ghost use Rattle.text.specs.Hex.{blank, digit_of, hex_bytes, hex_digit, hex_text, unblanked, HexRoundTrip};
 
 use std::alloc::{AllocError, Global};
+use std::fmt;
 
 // Whether a character is a space, a tab or a carriage return.
 fn is_blank(c: u8) -> bool
@@ -16,15 +17,10 @@ fn is_blank(c: u8) -> bool
 fn digit_value(c: u8) -> Option<u8>
     ensures { result ≡ digit_of c }
 {
-    match c {
-        b'0'..=b'9' => Some(c - b'0'),
-        b'A'..=b'F' => Some(c - b'A' + 10),
-        b'a'..=b'f' => Some(c - b'a' + 10),
-        _ => None,
-    }
+    char::from(c).to_digit(16).map(|digit| digit as u8)
 }
 
-// The capital hexadecimal digit of a value below sixteen.
+// The capital hexadecimal digit of a value below sixteen. (`char::from_digit` gives small letters.)
 fn digit_text(value: u8) -> u8
     requires { value < 16 }
     ensures { result ≡ hex_digit value }
@@ -33,6 +29,29 @@ fn digit_text(value: u8) -> u8
         b'0' + value
     } else {
         b'A' + (value - 10)
+    }
+}
+
+// The two digits of a byte, the high one first.
+fn digits(byte: u8) -> [u8; 2]
+    ensures { result ≡ hex_digit (byte / 16) ∷ hex_digit (byte % 16) ∷ [] }
+{
+    [digit_text(byte / 16), digit_text(byte % 16)]
+}
+
+// Bytes as text: two capital digits to a byte.
+#[derive(Clone, Copy, Debug)]
+pub struct Hex<'a>(pub &'a [u8]);
+
+impl fmt::Display for Hex<'_> {
+    ghost output = { λ bytes. Some (hex_text bytes.0.now) };
+
+    fn fmt<W: fmt::Write>(&self, f: &mut fmt::Formatter<W>) -> fmt::Result {
+        for byte in self.0 {
+            let [high, low] = digits(*byte);
+            write!(f, "{}{}", char::from(high), char::from(low))?;
+        }
+        Ok(())
     }
 }
 
@@ -74,8 +93,9 @@ pub fn push_hex(out: &mut Vec<u8>, bytes: &[u8]) -> Result<(), AllocError>
 {
     out.reserve(2 * bytes.len())?;
     for byte in bytes {
-        out.push_reserved(digit_text(byte / 16));
-        out.push_reserved(digit_text(byte % 16));
+        let [high, low] = digits(*byte);
+        out.push_reserved(high);
+        out.push_reserved(low);
     }
     Ok(())
 }

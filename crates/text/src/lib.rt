@@ -3,13 +3,16 @@
 
 mod decimal;
 mod hex;
+mod line;
 
 pub use decimal::push_decimal;
-pub use hex::{push_hex, read_hex};
+pub use hex::{Hex, push_hex, read_hex};
+pub use line::push_line;
 
 #[cfg(test)]
 mod tests {
     use super::*;
+    use std::io::Write;
     use std::test::Fail;
 
     #[test]
@@ -35,6 +38,22 @@ mod tests {
         let mut out = Vec::from_slice(rt.alloc(), b"> ")?;
         push_hex(&mut out, &[0x0a, 0xff])?;
         assert_eq!(rt; out.as_slice(), b"> 0AFF".as_slice());
+        Ok(())
+    }
+
+    #[test]
+    fn shows_hex(rt: HostRuntime) -> Result<(), Fail> {
+        let mut out = Vec::new(rt.alloc());
+        write!(out, "{}={}.", Hex(&[0x0a, 0xff]), Hex(&[]))?;
+        assert_eq!(rt; out.as_slice(), b"0AFF=.".as_slice());
+        Ok(())
+    }
+
+    #[test]
+    fn appends_a_line(rt: HostRuntime) -> Result<(), Fail> {
+        let mut out = Vec::from_slice(rt.alloc(), b"> ")?;
+        push_line(&mut out, Hex(&[0x0a, 0xff]))?;
+        assert_eq!(rt; out.as_slice(), b"> 0AFF\n".as_slice());
         Ok(())
     }
 

@@ -1,2 +1,2 @@
 pub mod Checks
-pub mod Numbers
+pub mod Weighing

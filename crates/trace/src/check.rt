@@ -7,9 +7,10 @@ pub(crate) fn check_sum(bytes: &[u8]) -> u16
     requires { length bytes.now ≤ 510 }
     ensures { result ≡ check_of bytes.now }
 {
-    let mut sum = 0;
-    for (i, byte) in bytes.iter().enumerate() {
-        sum += u32::from(*byte) * (i as u32 + 1);
-    }
+    let sum: u32 = bytes
+        .iter()
+        .zip(1..)
+        .map(|(&byte, weight)| u32::from(byte) * weight)
+        .sum();
     (sum % 65_521) as u16
 }

@@ -9,7 +9,7 @@ pub mod reader;
 mod tests {
     use crate::block::Block;
     use crate::reader::read_block;
-    use calls::call::Call;
+    use calls::call::{Arrival, Call};
     use std::test::Fail;
 
     // A block that begins with `front`, goes on with zeros and ends with this check.
@@ -35,26 +35,24 @@ mod tests {
     }
 
     #[test]
-    fn reads_an_arrival(rt: HostRuntime) -> Result<(), Fail> {
+    fn reads_an_arrival(rt: HostRuntime) {
         let front = [2, 0, 4, 0, 0, 0, 1, 0, 0, 0, 0, 0, 0, 0, 0, 0x40, 0, 0, 5];
-        match read_block(&block(&front, [0x04, 0x74])) {
-            Ok(Block::Call(Call::Arrival(arrival))) => {
-                assert_eq!(rt; arrival.peer, 1);
-                assert_eq!(rt; arrival.moment, 0);
-                assert_eq!(rt; arrival.datagram, [0x40, 0, 0, 5].as_slice());
-                Ok(())
-            }
-            _ => Err(Fail::new("no arrival")),
-        }
+        let arrival = Arrival {
+            moment: 0,
+            peer: 1,
+            datagram: &[0x40, 0, 0, 5],
+        };
+        assert_eq!(rt;
+            read_block(&block(&front, [0x04, 0x74])),
+            Ok(Block::Call(Call::Arrival(arrival)))
+        );
     }
 
     #[test]
     fn reads_a_tally(rt: HostRuntime) {
-        assert!(rt;
-            matches!(
-                read_block(&block(&[3], [0, 3])),
-                Ok(Block::Call(Call::Tally))
-            )
+        assert_eq!(rt;
+            read_block(&block(&[3], [0, 3])),
+            Ok(Block::Call(Call::Tally))
         );
     }
 

@@ -1,28 +1,22 @@
 -- What is read of a message can be written again, and gives the same bytes.
-use Rattle.std.proofs.Common.{◌≡◌, ℕ, ◌+◌, ◌-◌, ◌<◌, ◌≤◌, true, false, eqb, ltb, ◌⊎◌, List, [], ◌∷◌, ◌++◌, map, length, get_or, drop, Some, Ok, Err, Result, sym, refl, ap, ◌∙◌, subst, inl, inr, ⊎_elim, append_assoc, zero-add, arith, length-append, w8, Fits, Bor}
-use Rattle.std.proofs.lemmas.Bool.{cases_eq, cases_Bool, ne_eqb, ltb-false}
-use Rattle.std.proofs.lemmas.Bool.Decides.{nat_tests}
+use Rattle.std.proofs.Common.{◌≡◌, ℕ, ◌+◌, ◌-◌, ◌<◌, ◌≤◌, false, eqb, ◌⊎◌, List, [], ◌∷◌, ◌++◌, map, length, get_or, drop, Some, Ok, Err, Result, sym, refl, ap, ◌∙◌, subst, inl, inr, ⊎_elim, append_assoc, zero-add, arith, length-append, w8, Fits, Bor}
+use Rattle.std.proofs.lemmas.Bool.{cases_eq, ne_eqb}
 use Rattle.message.specs.declared.fault.MessageFault.{MessageFault}
-use Rattle.message.specs.declared.fault.Rejection.{Rejection}
-use Rattle.message.specs.declared.fault.Rejection.TheVariants.{TooLong}
-use Rattle.transcribe.specs.declared.TranscribeError.{TranscribeError}
-use Rattle.transcribe.specs.declared.TranscribeError.TheVariants.{Rejected, Unwritten}
 use Rattle.message.specs.declared.reader.Reader.{Reader}
 use Rattle.message.specs.declared.option.OptionField.{OptionField}
 use Rattle.message.specs.declared.option.MessageOption.{MessageOption}
 use Rattle.message.specs.declared.option.MessageOption.TheVariants.{Host, Port, Path, Proxy, Ignored, Unknown}
 use Rattle.message.specs.declared.writer.WriteError.{WriteError}
-use Rattle.message.specs.declared.writer.WriteError.TheVariants.{NoRoom}
 use Rattle.message.specs.Header.{Head, opens, opening}
 use Rattle.message.specs.Options.{ReadOption, OptionList, broken, ended, more, options_from, payload_of}
 use Rattle.message.specs.Encoding.{Field, Message, option_bytes, options_bytes, payload_bytes, head_bytes, encode}
-use Rattle.message.specs.Message.{Parsed, refused, message, parse, field_in, closing, inside, Rising, WellFormed}
-use Rattle.message.specs.Reading.{payload_after, field_of, read_option, read_answer, next_answer, step_of, options_of, moved_by}
-use Rattle.message.specs.Writing.{State, fresh, laid, fits, beginning, following, headed, start_answer, option_answer, payload_answer, settled, started, option_added, payload_added}
-use Rattle.transcribe.specs.Transcribing.{IsMessage, validity, answer_for, buffer_for, transcribe_answer, transcribed, Accepted, options_added, Copyable, Copied}
+use Rattle.message.specs.Message.{message, field_in, closing, inside, Rising, WellFormed}
+use Rattle.message.specs.Reading.{payload_after, field_of, read_option, read_answer, next_answer, step_of, options_of, Moved}
+use Rattle.message.specs.Writing.{State, IsFresh, laid, beginning, following, headed, start_answer, option_answer, payload_answer, settled, started, option_added, payload_added}
+use Rattle.transcribe.specs.Transcribing.{IsMessage, Accepted, options_added, Copyable, Copied}
 use Rattle.transcribe.specs.Theorems.{Bytes}
-use Rattle.transcribe.proofs.Round.{same_message, no_message, encode_parse}
-use Rattle.message.proofs.Walks.{turn, Drew, Stopped}
+use Rattle.transcribe.proofs.Round.{same_message, encode_parse}
+use Rattle.message.proofs.Walks.{turn, Drew}
 use Rattle.message.proofs.Laid.{added_added, added_none, laid_laid, length_laid, start_accepted, option_accepted, payload_accepted}
 
 -- number and value in a field that the reader gave
@@ -50,7 +44,7 @@ front : (o : ReadOption) (rest : OptionList) (w : State) → Copyable (more o re
 front o (broken f) w c = absurd c
 front o (ended os end) w c = (c.0, c.1, λ left v d. d)
 
-pub copy_turn : (r q : Reader) (w : State) (o : MessageOption) (f : OptionField) → read_answer (Ok (Some o)) ≡ next_answer (step_of r) → q ≡ moved_by (step_of r) r → Copyable (options_of r) w → f ≡ field_of o → CopyTurn r q w (field_as f)
+pub copy_turn : (r q : Reader) (w : State) (o : MessageOption) (f : OptionField) → read_answer (Ok (Some o)) ≡ next_answer (step_of r) → Moved (step_of r) r q → Copyable (options_of r) w → f ≡ field_of o → CopyTurn r q w (field_as f)
 copy_turn r q w o f e m c g =
     let d : Drew r q (read_option o) = turn r q (read_answer (Ok (Some o))) e m in
     let p = front (read_option o) (options_of q) w (subst (λ l. Copyable l w) d.left c) in
@@ -63,10 +57,6 @@ copy_turn r q w o f e m c g =
       copyable = p.1;
       onward = λ left v x. subst (λ l. Copied l w left v) (sym d.left) (p.2 left v x);
     })
-
--- the reader has no option left
-pub copy_end : (r q : Reader) (w : State) → Stopped r q → Copied (options_of r) w (options_of q) w
-copy_end r q w s = subst (λ l. Copied l w (options_of q) w) (sym s.left) (ap options_of s.same ∙ s.left, refl)
 
 -- a refusal where the writer is known to accept
 pub never_refused : (r a : Result (Unit {0}) WriteError) (why : WriteError) → r ≡ a → a ≡ Ok tt → r ≡ Err why → ⊥
@@ -98,6 +88,11 @@ write_options w (o ∷ os) room f r b l h =
       record { buffer = ih.1.buffer ∙ ap (λ v. v.buffer) join; len = ih.1.len ∙ ap (λ v. v.len) join; stage = ih.1.stage },
     )
 
+-- options that are written leave the lender of the buffer as it is
+pub same_lender : (w : State) (os : List Field) → (options_added w os).lender ≡ w.lender
+same_lender w [] = refl
+same_lender w (o ∷ os) = same_lender (option_added w o) os
+
 -- an Empty message has nothing more, and to any other message options and a payload may be added
 no_options : (before : ℕ) (os : List Field) → length (options_bytes before os) ≡ 0 → os ≡ []
 no_options before [] e = refl
@@ -121,13 +116,14 @@ pub record Writes (w : State) (m : Message) : Type 0 where
   pub start : start_answer w m.head ≡ Ok tt
   pub options : Accepted (started w m.head) m.options
   pub payload : payload_answer (options_added (started w m.head) m.options) m.payload ≡ Ok tt
+  pub lender : (options_added (started w m.head) m.options).lender ≡ w.lender
   pub buffer : (payload_added (options_added (started w m.head) m.options) m.payload).buffer ≡ laid w.buffer 0 (encode m)
   pub len : (payload_added (options_added (started w m.head) m.options) m.payload).len ≡ length (encode m)
 
 none_accepted : (w : State) (os : List Field) → os ≡ [] → Accepted w os × Written w (options_added w os) os
 none_accepted w os e = subst (λ os. Accepted w os × Written w (options_added w os) os) (sym e) (let none = added_none w [] refl in (tt, record { buffer = ap (λ v. v.buffer) none; len = ap (λ v. v.len) none; stage = refl }))
 
-pub writes : (w : State) (m : Message) → w ≡ fresh w.buffer → WellFormed m → length (encode m) ≤ length w.buffer → Writes w m
+pub writes : (w : State) (m : Message) → IsFresh w → WellFormed m → length (encode m) ≤ length w.buffer → Writes w m
 writes w m new g room =
     let h = m.head in
     let H = head_bytes h in
@@ -152,6 +148,7 @@ writes w m new g room =
           (λ none. ap (payload_answer u) none.1)
           (λ f. sym (payload_accepted u m.payload (f ∙ sym (ap following os.1.stage)) (omega (arith, size, at, wide, length-append H O)) (omega (arith, size, at, length-append H O))))
           (open_stage m g);
+      lender = same_lender v m.options;
       buffer = (λ i. laid (joined i) (at i) P) ∙ laid_laid 0 (length (H ++ O)) w.buffer (H ++ O) P (omega arith) (sym (zero-add (length (H ++ O)))) ∙ ap (laid w.buffer 0) (append_assoc H O P);
       len = ap (λ n. n + length P) at ∙ omega (arith, size, length-append H O);
     }
@@ -161,6 +158,7 @@ pub record Rest (d : List ℕ) (w : State) (left : OptionList) (v : State) : Typ
   pub bytes : List ℕ
   pub payload : payload_after d left ≡ Ok bytes
   pub accepted : payload_answer v bytes ≡ Ok tt
+  pub lender : v.lender ≡ w.lender
   pub buffer : (payload_added v bytes).buffer ≡ laid w.buffer 0 d
   pub len : (payload_added v bytes).len ≡ length d
 
@@ -170,7 +168,7 @@ pub record Fields (d : List ℕ) (w : State) (h : Head) (l : OptionList) : Type 
   pub copyable : Copyable l (started w h)
   pub rest : (left : OptionList) (v : State) → Copied l (started w h) left v → Rest d w left v
 
-fields_at : (d : List ℕ) (w : State) (h : Head) (l : OptionList) (m : Message) → w ≡ fresh w.buffer → length d ≤ length w.buffer → encode m ≡ d → WellFormed m → closing d h l ≡ message m → Fields d w h l
+fields_at : (d : List ℕ) (w : State) (h : Head) (l : OptionList) (m : Message) → IsFresh w → length d ≤ length w.buffer → encode m ≡ d → WellFormed m → closing d h l ≡ message m → Fields d w h l
 fields_at d w h (broken f) m new room again g e = let z : ◌≡◌ {A = ℕ} 0 1 = cc in absurd (omega arith)
 fields_at d w h (ended os end) m new room again g e =
     let n : Message = record { head = h; options = map field_in os; payload = payload_of (drop end d) } in
@@ -184,18 +182,19 @@ fields_at d w h (ended os end) m new room again g e =
         bytes = n.payload;
         payload = ap (payload_after d) c.0;
         accepted = ap (λ u. payload_answer u n.payload) c.1 ∙ k.payload;
+        lender = ap (λ u. u.lender) c.1 ∙ k.lender;
         buffer = ap (λ u. (payload_added u n.payload).buffer) c.1 ∙ k.buffer ∙ ap (laid w.buffer 0) back;
         len = ap (λ u. (payload_added u n.payload).len) c.1 ∙ k.len ∙ ap length back;
       };
     }
 
-pub fields : (d : List ℕ) (w : State) (h : Head) (at : ℕ) → Bytes d → IsMessage d → w ≡ fresh w.buffer → length d ≤ length w.buffer → opening d ≡ opens h at → Fields d w h (options_from d at 0)
+pub fields : (d : List ℕ) (w : State) (h : Head) (at : ℕ) → Bytes d → IsMessage d → IsFresh w → length d ≤ length w.buffer → opening d ≡ opens h at → Fields d w h (options_from d at 0)
 fields d w h at small is new room o =
     let whole = encode_parse d is.0 small is.1 in
     fields_at d w h (options_from d at 0) is.0 new room whole.again whole.good (sym (ap (inside d) o) ∙ is.1)
 
 -- the same of a reader that was opened on the datagram
-pub fields_of : (d : Bor (List ℕ)) (w : State) (h : Head) (r : Reader) → ((i : ℕ) → Fits w8 (get_or d.now i 0)) → IsMessage d.now → w ≡ fresh w.buffer → length d.now ≤ length w.buffer → (opening d.now ≡ opens h r.at) × (r.datagram ≡ d) × (r.number ≡ 0) → Fields d.now w h (options_of r)
+pub fields_of : (d : Bor (List ℕ)) (w : State) (h : Head) (r : Reader) → ((i : ℕ) → Fits w8 (get_or d.now i 0)) → IsMessage d.now → IsFresh w → length d.now ≤ length w.buffer → (opening d.now ≡ opens h r.at) × (r.datagram ≡ d) × (r.number ≡ 0) → Fields d.now w h (options_of r)
 fields_of d w h r small is new room o =
     let same : options_from d.now r.at 0 ≡ options_of r = sym (λ i. options_from (o.1 i).now r.at (o.2 i)) in
     subst (Fields d.now w h) same (fields d.now w h r.at (λ i. (small i).fits) is new room o.0)
@@ -206,6 +205,7 @@ same_ok x y e = cc
 -- behind copied options: the payload that was read is accepted
 pub record Finish (d : List ℕ) (w v : State) (p : List ℕ) : Type 0 where
   pub accepted : payload_answer v p ≡ Ok tt
+  pub lender : v.lender ≡ w.lender
   pub buffer : (payload_added v p).buffer ≡ laid w.buffer 0 d
   pub len : (payload_added v p).len ≡ length d
 
@@ -213,44 +213,4 @@ pub finish : (d e : List ℕ) (w s v : State) (h : Head) (l left : OptionList) (
 finish d e w s v h l left p f started copied same read =
     let r = f.rest left v (subst (λ s. Copied l s left v) started copied) in
     let is : r.bytes ≡ p = same_ok r.bytes p (sym r.payload ∙ ap (λ x. payload_after x left) (sym same) ∙ read) in
-    subst (Finish d w v) is (record { accepted = r.accepted; buffer = r.buffer; len = r.len })
-
--- what a datagram written again comes to, by what `parse` says of it
-pub record Outcome (d out after : List ℕ) (r : Result ℕ TranscribeError) : Type 0 where
-  pub answer : r ≡ transcribe_answer d out
-  pub buffer : after ≡ transcribed d out
-
-outcome : (d buffer : List ℕ) (p : Parsed) (r : Result ℕ TranscribeError) → parse d ≡ p → r ≡ answer_for d buffer p → Outcome d buffer (buffer_for d buffer r) r
-outcome d buffer p r e a =
-    let is : r ≡ transcribe_answer d buffer = a ∙ sym (ap (answer_for d buffer) e) in
-    record { answer = is; buffer = ap (buffer_for d buffer) is }
-
-refused_at : (p : Parsed) (why : Rejection) → Err why ≡ validity p → p ≡ refused why
-refused_at (refused why') why e = cc
-refused_at (message m) why e = let z : ◌≡◌ {A = ℕ} 0 1 = cc in absurd (omega arith)
-
-message_at : (p : Parsed) → Ok tt ≡ validity p → (m : Message) × (p ≡ message m)
-message_at (refused why) e = let z : ◌≡◌ {A = ℕ} 0 1 = cc in absurd (omega arith)
-message_at (message m) e = (m, refl)
-
-pub refused_outcome : (d buffer : List ℕ) (why : Rejection) → Err why ≡ validity (parse d) → Outcome d buffer buffer (Err (Rejected why))
-refused_outcome d buffer why e = outcome d buffer (refused why) (Err (Rejected why)) (refused_at (parse d) why e) refl
-
-short : (d : List ℕ) (m : Message) → parse d ≡ message m → length d ≤ 480
-short d m e = ⊎_elim
-    (λ t. absurd (no_message TooLong m (rw t at e)))
-    (λ t. ltb-false 480 (length d) t)
-    (cases_Bool (ltb 480 (length d)))
-
-pub full_outcome : (d buffer : List ℕ) → Ok tt ≡ validity (parse d) → length buffer < length d → Outcome d buffer buffer (Err (Unwritten NoRoom))
-full_outcome d buffer e less =
-    let m = message_at (parse d) e in
-    let t : fits buffer (length d) ≡ false = grind (arith, nat_tests) in
-    outcome d buffer (message m.0) (Err (Unwritten NoRoom)) m.1 (rw t)
-
-pub written_outcome : (d buffer after : List ℕ) (n : ℕ) → Ok tt ≡ validity (parse d) → length d ≤ length buffer → n ≡ length d → after ≡ laid buffer 0 d → Outcome d buffer after (Ok n)
-written_outcome d buffer after n e room len is =
-    let m = message_at (parse d) e in
-    let le = short d m.0 m.1 in
-    let t : fits buffer (length d) ≡ true = grind (arith, nat_tests) in
-    subst (λ b. Outcome d buffer b (Ok n)) (sym is) (outcome d buffer (message m.0) (Ok n) m.1 (rw t (ap Ok len)))
+    subst (Finish d w v) is (record { accepted = r.accepted; lender = r.lender; buffer = r.buffer; len = r.len })

@@ -6,7 +6,7 @@ ghost use Rattle.transcribe.specs.declared.TranscribeError.TheVariants.{Rejected
 ghost use Rattle.message.specs.declared.fault.Rejection.TheVariants.{Fault};
 ghost use Rattle.message.specs.Message.{parse};
 ghost use Rattle.message.specs.Reading.{options_of};
-ghost use Rattle.message.specs.Writing.{laid, fresh, state_of};
+ghost use Rattle.message.specs.Writing.{IsFresh, laid, state_of};
 ghost use Rattle.transcribe.specs.Transcribing.{IsMessage, Copyable, Copied, validity, transcribe_answer, transcribed};
 ghost use Rattle.transcribe.specs.Theorems.{RoundTrip, OptionLaws};
 
@@ -54,11 +54,11 @@ fn validate(datagram: &[u8]) -> Result<(), Rejection>
     Ok(())
 }
 
-// Writes the options that the reader has still to give; the writer is known to accept them.
+// Writes the options that the reader has still to give; the writer is known to accept them. (A `Result`, which is always
+// Ok, so that the calls of reader and writer follow one another by `?`. So in `copy_fields`.)
 fn copy_options(reader: &mut Reader<'_>, writer: &mut Writer<'_>) -> Result<(), TranscribeError>
     requires { Copyable (options_of reader.old) (state_of writer.old) }
     ensures answer { result ≡ Ok tt }
-    ensures lender { writer.new.out.ghost_name ≡ writer.old.out.ghost_name }
     ensures datagram { reader.new.datagram ≡ reader.old.datagram }
     ensures copied { Copied (options_of reader.old) (state_of writer.old) (options_of reader.new) (state_of writer.new) }
 {
@@ -72,12 +72,12 @@ fn copy_options(reader: &mut Reader<'_>, writer: &mut Writer<'_>) -> Result<(), 
 // Writes all the fields of a datagram that is a message; the writer is fresh and has room.
 fn copy_fields(datagram: &[u8], writer: &mut Writer<'_>) -> Result<(), TranscribeError>
     requires is_message { IsMessage datagram.now }
-    requires writer_is_fresh { state_of writer.old ≡ fresh writer.old.out.now }
-    requires writer_has_room { length datagram.now ≤ length writer.old.out.now }
+    requires writer_is_fresh { IsFresh (state_of writer.old) }
+    requires writer_has_room { length datagram.now ≤ length (state_of writer.old).buffer }
     ensures answer { result ≡ Ok tt }
-    ensures lender { writer.new.out.ghost_name ≡ writer.old.out.ghost_name }
-    ensures buffer { writer.new.out.now ≡ laid writer.old.out.now 0 datagram.now }
-    ensures len { writer.new.len ≡ length datagram.now }
+    ensures lender { (state_of writer.new).lender ≡ (state_of writer.old).lender }
+    ensures buffer { (state_of writer.new).buffer ≡ laid (state_of writer.old).buffer 0 datagram.now }
+    ensures len { (state_of writer.new).len ≡ length datagram.now }
 {
     let (header, mut reader) = Reader::open(datagram)?;
     writer.start(header.kind, header.code, header.id, header.token)?;
@@ -88,6 +88,7 @@ fn copy_fields(datagram: &[u8], writer: &mut Writer<'_>) -> Result<(), Transcrib
 
 // Reads the datagram and gives its fields to a writer over `out`: how many bytes are written at its front. They are
 // the bytes of the datagram; `out` stays as it was where the datagram is not a message or does not fit.
+#[tactic(auto, using(crate::proofs::Laws::round_trip, crate::proofs::Laws::option_laws))]
 pub fn transcribe(datagram: &[u8], out: &mut [u8]) -> Result<usize, TranscribeError>
     ensures answer { result ≡ transcribe_answer datagram.now out.old }
     ensures buffer { out.new ≡ transcribed datagram.now out.old }

@@ -5,11 +5,6 @@ use Rattle.transcribe.specs.Transcribing.{Copyable}
 use Rattle.transcribe.proofs.Copying.{fields_of, finish, never_refused, settled_ok}
 use Rattle.transcribe.proofs.copy_fields.Goals as goal
 
-pub returns-in_err-start : goal.returns-in_err-start
-returns-in_err-start c =
-    let f = fields_of c.args.datagram (state_of c.args.writer.now) (head_of c.in_ok-header.header) c.in_ok-header.reader c.type_inv.datagram c.requires.is_message c.requires.writer_is_fresh c.requires.writer_has_room c.in_ok-header.ensures in
-    absurd (never_refused c.start.result _ _ c.start.ensures.answer f.start c.in_err-start.was)
-
 pub copy_options-requires : goal.copy_options-requires
 copy_options-requires c =
     let w = state_of c.args.writer.now in
@@ -38,7 +33,7 @@ returns c =
     let u = settled_ok c.payload-2.result _ (payload_added v p) v (state_of c.payload-2.new.self) c.payload-2.ensures.answer e.accepted c.payload-2.ensures.state in
     record {
       answer = refl;
-      lender = c.payload-2.ensures.lender ∙ c.copy_options.ensures.lender ∙ c.start.ensures.lender;
+      lender = ap (λ x. x.lender) u ∙ e.lender;
       buffer = ap (λ x. x.buffer) u ∙ e.buffer;
       len = ap (λ x. x.len) u ∙ e.len;
     }

@@ -9,7 +9,6 @@ use Rattle.transcribe.proofs.copy_options.Given as goal
 abbrev pub invariant-loop-option : goal.invariant-loop-option
 invariant-loop-option l =
     (l.reader.datagram ≡ l.initial.reader.datagram)
-    × (l.writer.out.ghost_name ≡ l.initial.writer.out.ghost_name)
     × Copyable (options_of l.reader) (state_of l.writer)
     × ((left : OptionList) (v : State) → Copied (options_of l.reader) (state_of l.writer) left v → Copied (options_of l.initial.reader) (state_of l.initial.writer) left v)
 

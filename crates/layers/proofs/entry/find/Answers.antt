@@ -1,22 +1,21 @@
-use Rattle.std.proofs.Common.{sym, ◌∙◌}
-use Rattle.std.proofs.lemmas.List.{at_drop_all}
-use Rattle.register.specs.Cached.{hit}
+use Rattle.std.proofs.Common.{rules, Some, None, sym, ap, ◌∙◌}
+use Rattle.std.specs.Option.{option_map}
+use Rattle.std.proofs.lemmas.Iterator.{YieldsList-from_slice}
+use Rattle.std.proofs.lemmas.Iterator.Search.{find_from_yields_List}
+use borrow.Author.Tests.{tests}
 use Rattle.register.specs.Model.{segments_of}
-use Rattle.layers.specs.Entries.{entries_of}
-use Rattle.layers.proofs.Walks.{hit_more, from_entries_more}
+use Rattle.register.specs.Cached.{answers_at}
+use Rattle.layers.specs.Entries.{entry_of}
+use Rattle.layers.proofs.Searches.{found}
 use Rattle.layers.proofs.entry.find.Goals as goal
 
-pub loop-entry-preserved : goal.loop-entry-preserved
-loop-entry-preserved c = (
-  c.loop-entry.invariant.0 ∙ hit_more c.args.entries.now c.loop-entry.entry-index _ _ c.loop-entry-test.true _ _ c.if-is_fresh.ensures,
-  c.loop-entry.invariant.1 ∙ from_entries_more c.args.entries.now c.loop-entry.entry-index _ _ c.loop-entry-test.true _ _ c.if-is_fresh.ensures,
-)
-
-pub returns-then-is_fresh : goal.returns-then-is_fresh
-returns-then-is_fresh c = (
-  c.loop-entry.invariant.0 ∙ hit_more c.args.entries.now c.loop-entry.entry-index _ _ c.loop-entry-test.true _ _ c.if-is_fresh.ensures,
-  c.answer.ensures ∙ sym (c.loop-entry.invariant.1 ∙ from_entries_more c.args.entries.now c.loop-entry.entry-index _ _ c.loop-entry-test.true _ _ c.if-is_fresh.ensures),
-)
-
 pub returns : goal.returns
-returns c = c.loop-entry.invariant.0 ∙ at_drop_all (λ xs. hit (segments_of c.args.path.now) c.args.ms (entries_of xs)) c.args.entries.now c.loop-entry.entry-index c.loop-entry-test.false
+returns c =
+    let h = find_from_yields_List (λ e. answers_at (segments_of c.args.path.now) c.args.ms (entry_of e)) _ _ _ c.find.ensures.ran (YieldsList-from_slice c.args.entries.now cc) (λ x b q k. search (rules, tests)) in
+    let f = found (segments_of c.args.path.now) c.args.ms c.args.entries.now (Some c.in_ok-entry.entry.now) (ap (option_map (λ y. y.now)) (sym c.in_ok-entry.was) ∙ h) in
+    (f.0, c.answer.ensures ∙ sym f.1)
+
+pub returns-in_err-entry : goal.returns-in_err-entry
+returns-in_err-entry c =
+    let h = find_from_yields_List (λ e. answers_at (segments_of c.args.path.now) c.args.ms (entry_of e)) _ _ _ c.find.ensures.ran (YieldsList-from_slice c.args.entries.now cc) (λ x b q k. search (rules, tests)) in
+    rw c.from_residual.ensures (found (segments_of c.args.path.now) c.args.ms c.args.entries.now None (ap (option_map (λ y. y.now)) (sym c.in_err-entry.was) ∙ h))

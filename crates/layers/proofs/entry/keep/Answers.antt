@@ -1,6 +1,6 @@
 use Rattle.std.proofs.Common.{sym}
 use Rattle.register.specs.Model.{segments_of, read_of}
-use Rattle.layers.proofs.Walks.{set_kept}
+use Rattle.layers.proofs.Searches.{set_kept}
 use Rattle.layers.proofs.entry.keep.Goals as goal
 
 pub returns-then-is_kept : goal.returns-then-is_kept

@@ -1,16 +1,10 @@
-use Rattle.std.proofs.Common.{sym, ◌∙◌}
-use Rattle.std.proofs.lemmas.List.{at_drop_all}
-use Rattle.std.proofs.lemmas.Bool.{lt-ltb, le-ltb}
-use Rattle.server.specs.Serving.{keys, full}
-use Rattle.serving.specs.Records.{records_of}
-use Rattle.serving.proofs.Walks.{full_more}
+use Rattle.std.proofs.Common.{nat_lt, rules, tests, ◌∙◌}
+use Rattle.std.proofs.lemmas.Iterator.{YieldsList-from_slice}
+use Rattle.std.proofs.lemmas.Iterator.Search.{all_from_yields_List}
+use Rattle.serving.proofs.Walks.{all_live}
 use Rattle.serving.proofs.record.is_full.Goals as goal
 
-pub loop-record-preserved : goal.loop-record-preserved
-loop-record-preserved c = c.loop-record.invariant ∙ full_more c.args.records.now c.loop-record.record-index _ c.loop-record-test.true c.args.ms _ (lt-ltb _ _ c.if-record-ms.false)
-
-pub returns-then-record-ms : goal.returns-then-record-ms
-returns-then-record-ms c = sym (c.loop-record.invariant ∙ full_more c.args.records.now c.loop-record.record-index _ c.loop-record-test.true c.args.ms _ (le-ltb _ _ c.if-record-ms.true))
-
 pub returns : goal.returns
-returns c = sym (c.loop-record.invariant ∙ at_drop_all (λ xs. full (keys (records_of xs)) c.args.ms) c.args.records.now c.loop-record.record-index c.loop-record-test.false)
+returns c =
+    all_from_yields_List (λ r. nat_lt c.args.ms r.expiry) _ _ _ c.all.ensures.ran (YieldsList-from_slice c.args.records.now cc) (λ x b q k. (search (rules, tests), search (rules, tests)))
+    ∙ all_live c.args.ms c.args.records.now

@@ -1,7 +1,7 @@
 use Rattle.std.proofs.Common.{vec_items}
 use Rattle.calls.specs.Model.{calls_of, served_of}
 use Rattle.serving.proofs.Keeping.{session_made}
-use Rattle.sessions.specs.Stacks.{plots_meaning, plots_state}
+use Rattle.office.specs.Stacks.{plots_meaning, plots_state}
 use Rattle.sessions.specs.Sessions.{plots_over}
 use Rattle.sessions.proofs.session.plots_session.Goals as goal
 

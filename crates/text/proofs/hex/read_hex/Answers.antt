@@ -1,6 +1,5 @@
 use Rattle.std.proofs.Common.{◌≡◌, ◌+◌, ◌*◌, [], ◌∷◌, ◌++◌, vec_items, ap, ◌∙◌, rules}
-use Rattle.std.proofs.lemmas.Result.{MatchResult-from_err}
-use Rattle.text.proofs.Pairs.{sofar_blank, sofar_even, sofar_first, sofar_odd, sofar_refused, sofar_second, sofar_wrong}
+use Rattle.text.proofs.Pairs.{sofar_blank, sofar_first, sofar_second, sofar_wrong}
 use Rattle.text.proofs.hex.read_hex.Goals as goal
 use Rattle.text.proofs.hex.read_hex.Goals.{in-Some-high+in_ok-push-in-Some-high, in-None}
 
@@ -9,11 +8,6 @@ loop-c-preserved-then-is_blank c = sofar_blank c.loop-c.invariant c.loop-c-test.
 
 pub returns-in_default : goal.returns-in_default
 returns-in_default c = search (rules, sofar_wrong)
-
-pub returns-in_err-push-in-Some-high : goal.returns-in_err-push-in-Some-high
-returns-in_err-push-in-Some-high c =
-    MatchResult-from_err _ _ _ c.from_residual.ensures.0
-    (λ _. sofar_refused c.loop-c.invariant c.loop-c-test.true c.if-is_blank.ensures c.in-Some-high.first c.in-Some-high.is)
 
 pub loop-c-preserved : goal.loop-c-preserved
 loop-c-preserved c =
@@ -27,9 +21,3 @@ loop-c-preserved c =
           rw (w.high-is, w.bytes-is)
           (sofar_first c.loop-c.invariant c.loop-c-test.true c.if-is_blank.ensures c.in-Some.digit c.in-Some.ensures w.in-None.is)
     ]
-
-pub returns-in-Some-high-2 : goal.returns-in-Some-high-2
-returns-in-Some-high-2 c = search (rules, sofar_odd)
-
-pub returns-in-None-high : goal.returns-in-None-high
-returns-in-None-high c = search (rules, sofar_even)

@@ -1,6 +1,5 @@
-use Rattle.std.proofs.Common.{length, drop, Ok, Err, sym, ap, ◌∙◌, arith}
+use Rattle.std.proofs.Common.{length, Ok, Err, sym, ap, ◌∙◌, arith}
 use Rattle.std.proofs.lemmas.Result.{err_from_is_err_and}
-use Rattle.message.specs.Options.{payload_of}
 use Rattle.message.specs.Reading.{read_option, options_of, read_answer, payload_after}
 use Rattle.message.proofs.Walks.{turn, Drew, payload_more}
 use Rattle.message.proofs.reader.Reader.payload.Goals as goal
@@ -23,11 +22,3 @@ loop-option-preserved c =
     let o = _option c in
     let d = c.args.self.now.datagram.now in
     (o.same ∙ c.loop-option.invariant.0, payload_more d (read_option c.in-Some._option) (options_of c.next.new.self) ∙ ap (payload_after d) (sym o.left) ∙ c.loop-option.invariant.1)
-
-pub returns : goal.returns
-returns c =
-    let d = c.args.self.now.datagram.now in
-    let s = turn c.loop-option.rest c.next.new.self _ (ap (λ o. read_answer (Ok o)) (sym c.in_default.is) ∙ c.in_ok-_option.ensures.answer) c.next.ensures.after in
-    let same = ap (λ q. q.datagram) s.same ∙ c.loop-option.invariant.0 in
-    sym c.loop-option.invariant.1 ∙ ap (payload_after d) s.left
-    ∙ ap Ok (sym (c.behind.ensures ∙ (λ i. payload_of (drop (s.same i).at (same i).now))))
