@@ -1,3 +1,4 @@
 pub mod Digits
 pub mod Pairs
 pub mod Trips
+pub mod Keeping

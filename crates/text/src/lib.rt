@@ -7,7 +7,7 @@ mod line;
 
 pub use decimal::push_decimal;
 pub use hex::{Hex, push_hex, read_hex};
-pub use line::push_line;
+pub use line::{push_line, whole_or_nothing};
 
 #[cfg(test)]
 mod tests {

@@ -1,5 +1,5 @@
 // Lines of text.
-ghost use Rattle.std.specs.Prelude.{◌≡◌, ◌++◌, IfSome, OnOk, OnErr};
+ghost use Rattle.std.specs.Prelude.{◌≡◌, ◌++◌, take, is_ok, if◌then◌else◌, IfSome, OnOk, OnErr};
 ghost use Rattle.text.specs.Lines.{line_feed};
 
 use std::alloc::AllocError;
@@ -12,4 +12,19 @@ pub fn push_line<L: Display + Drop>(out: &mut Vec<u8>, shown: L) -> Result<(), A
 {
     let line = format!(in *out.allocator(); "{shown}\n")?;
     out.extend_from_slice(line.as_bytes())
+}
+
+// Where memory was wanting for a line, takes back what came after the first `before` bytes. The result is passed on.
+pub fn whole_or_nothing<T>(
+    out: &mut Vec<u8>,
+    before: usize,
+    pushed: Result<T, AllocError>,
+) -> Result<T, AllocError>
+    ensures same { result ≡ pushed }
+    ensures text { out.new.items ≡ (if is_ok pushed then out.old.items else take before out.old.items) }
+{
+    if pushed.is_err() {
+        out.truncate(before);
+    }
+    pushed
 }
