@@ -30,7 +30,7 @@ abbrev pub calls_of : ℕ → List Call → List calls.Call
 calls_of room cs = map (call_of room) cs
 
 -- the code gives this answer: so many bytes, or silence or a refusal with this number
-abbrev pub Gives : calls.Answer → Answer ℕ → Type 0
+abbrev pub Gives : calls.Answer → Answer → Type 0
 Gives (calls.Reply b) (code.Reply n) = n ≡ length b
 Gives (calls.Reply b) (code.Silent why) = ⊥
 Gives (calls.Reply b) (code.Refused why) = ⊥
@@ -52,25 +52,23 @@ buffer_with (calls.Refused k) buffer = buffer
 buffer_with (calls.Tallied c) buffer = buffer
 
 -- a reply lies within a buffer of this length
-abbrev pub Within : ℕ → Answer ℕ → Type 0
+abbrev pub Within : ℕ → Answer → Type 0
 Within room (code.Reply n) = n ≤ room
 Within room (code.Silent why) = Unit {0}
 Within room (code.Refused why) = Unit {0}
 
--- the answer as the host has it, where `bytes` reads the bytes of a reply off
-abbrev pub answer_by : {R : Type 0} → (R → Bytes) → Answer R → calls.Answer
-answer_by bytes (code.Reply reply) = calls.Reply (bytes reply)
-answer_by bytes (code.Silent why) = calls.Silent (silence_number why)
-answer_by bytes (code.Refused why) = calls.Refused (refusal_number why)
-
--- the same with the reply buffer as it is then
-abbrev pub answer_in : Answer ℕ → Bytes → calls.Answer
-answer_in answer buffer = answer_by (λ n. take n buffer) answer
+-- the answer as the host has it, with the reply buffer as it is then
+abbrev pub answer_in : Answer → Bytes → calls.Answer
+answer_in (code.Reply n) buffer = calls.Reply (take n buffer)
+answer_in (code.Silent why) buffer = calls.Silent (silence_number why)
+answer_in (code.Refused why) buffer = calls.Refused (refusal_number why)
 
 -- the same where the reply's bytes come with it
 abbrev pub served_as : Served → calls.Answer
-served_as (whole.Arrival answer) = answer_by bytes_of answer
-served_as (whole.Tally n) = calls.Tallied (counts_of n)
+served_as (whole.Reply b) = calls.Reply (bytes_of b)
+served_as (whole.Silent why) = calls.Silent (silence_number why)
+served_as (whole.Refused why) = calls.Refused (refusal_number why)
+served_as (whole.Tallied n) = calls.Tallied (counts_of n)
 
 abbrev pub served_of : List Served → List calls.Answer
 served_of answers = map served_as answers

@@ -5,12 +5,11 @@ ghost use Rattle.calls.specs.Numbers.{refusal_number, silence_number};
 use crate::report::Report;
 use register::bytes::Bytes;
 
-// The answer to an arrival: a reply, silence, or a refusal. Where a reply is written into a buffer, R is the number of
-// its bytes at the buffer's front; else R has the bytes.
-// Silence is an answer and no failure, so it is no `Result`.
+// A reply of so many bytes at the front of the buffer, silence, or a refusal. Silence is an answer and no failure, so it is
+// no `Result`.
 #[derive(Clone, Copy, PartialEq, Eq, Debug)]
-pub enum Answer<R> {
-    Reply(R),
+pub enum Answer {
+    Reply(usize),
     Silent(Silence),
     Refused(Refusal),
 }
@@ -18,7 +17,7 @@ pub enum Answer<R> {
 // The answer to an arrival, and why it was not carried to the register, where it was not.
 #[derive(Clone, Copy, PartialEq, Eq, Debug)]
 pub struct Outcome {
-    pub answer: Answer<usize>,
+    pub answer: Answer,
     pub report: Option<Report>,
 }
 
@@ -31,11 +30,14 @@ pub struct Counts {
     pub dropped: u32,
 }
 
-// What a call is answered, with the bytes of a reply.
+// What a call is answered, with the bytes of the reply. It holds no `Answer` with bytes in it: what holds an enum that holds a
+// value with a model cannot be carried past a `?`, so no list of such answers could be made.
 #[derive(Clone, Copy, PartialEq, Eq, Debug)]
 pub enum Served {
-    Arrival(Answer<Bytes<320>>),
-    Tally(Counts),
+    Reply(Bytes<320>),
+    Silent(Silence),
+    Refused(Refusal),
+    Tallied(Counts),
 }
 
 // Why the server takes no notice of an arrival; the host called it wrongly, and nothing has changed.

@@ -56,7 +56,7 @@ performed m v x peer t c = record {
 
 -- what an arrival that comes to the event e gives: the answer r, the reply buffer from `before` to `after`, and the
 -- server from v to w
-pub record Ends (m : Meaning) (v w : serving.Server m.State) (e : Event) (r : code.Answer ℕ) (before after : Bytes) : Type 0 where
+pub record Ends (m : Meaning) (v w : serving.Server m.State) (e : Event) (r : code.Answer) (before after : Bytes) : Type 0 where
   pub answer : Gives (serving.answer_event m coap v e) r
   pub buffer : after ≡ buffer_with (serving.answer_event m coap v e) before
   pub next : w ≡ serving.next_event m coap v e

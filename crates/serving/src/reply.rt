@@ -37,7 +37,7 @@ pub(crate) fn copy(reply: &ReplyBytes, buffer: &mut ReplyBuffer) -> usize
 }
 
 // What is no request gets a Reset if it is confirmable, and this silence otherwise.
-fn reset(exchange: &Exchange<'_>, silence: Silence, buffer: &mut ReplyBuffer) -> Answer<usize>
+fn reset(exchange: &Exchange<'_>, silence: Silence, buffer: &mut ReplyBuffer) -> Answer
     ensures answer { Gives (not_request (exchange_as exchange.now) (silence_number silence)) result }
     ensures buffer { buffer.new ≡ buffer_with (not_request (exchange_as exchange.now) (silence_number silence)) buffer.old }
 {
@@ -48,7 +48,7 @@ fn reset(exchange: &Exchange<'_>, silence: Silence, buffer: &mut ReplyBuffer) ->
 }
 
 // An error by its code alone.
-fn fail(exchange: &Exchange<'_>, code: ChangeCode, buffer: &mut ReplyBuffer) -> Answer<usize>
+fn fail(exchange: &Exchange<'_>, code: ChangeCode, buffer: &mut ReplyBuffer) -> Answer
     requires { length exchange.now.token.now ≤ 8 }
     ensures answer { Gives (Replied (failing_to (exchange_as exchange.now) (code_byte code))) result }
     ensures buffer { buffer.new ≡ buffer_with (Replied (failing_to (exchange_as exchange.now) (code_byte code))) buffer.old }
@@ -61,7 +61,7 @@ pub(crate) fn settle_report(
     datagram: &[u8],
     report: &Report,
     buffer: &mut ReplyBuffer,
-) -> Answer<usize>
+) -> Answer
     ensures answer { Gives (answer_to (exchangeFor datagram.now) report.now) result }
     ensures buffer { buffer.new ≡ buffer_with (answer_to (exchangeFor datagram.now) report.now) buffer.old }
 {

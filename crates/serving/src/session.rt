@@ -4,7 +4,7 @@ ghost use Rattle.register.specs.Model.{bytes_of};
 ghost use Rattle.server.specs.Calls.{Arrival as Arriving};
 ghost use Rattle.server.specs.Serving.{answer, next, run, end};
 ghost use Rattle.server.specs.Requests.{coap};
-ghost use Rattle.calls.specs.Model.{answer_by, call_of, calls_of, served_as, served_of};
+ghost use Rattle.calls.specs.Model.{call_of, calls_of, served_as, served_of};
 ghost use Rattle.serving.specs.View.{view};
 ghost use Rattle.serving.specs.Sessions.{KeepsAll, Session};
 
@@ -25,18 +25,17 @@ fn reply_bytes(bytes: &[u8]) -> Bytes<320>
 }
 
 impl<R: Resource> Server<R> {
-    // An arrival, with a buffer of 320 bytes for the reply. (Each answer by itself: a public `map` of `Answer` would have a
-    // `requires` that its closure may be called.)
-    fn receive(&mut self, arrival: &Arrival<'_>) -> Answer<Bytes<320>>
-        ensures answer { answer_by bytes_of result ≡ answer R.Resource.meaning coap (view R.Resource.meaning R.Resource.state self.old) (Arriving arrival.now.moment arrival.now.peer arrival.now.datagram.now 320) }
+    // An arrival, with a buffer of 320 bytes for the reply.
+    fn receive(&mut self, arrival: &Arrival<'_>) -> Served
+        ensures answer { served_as result ≡ answer R.Resource.meaning coap (view R.Resource.meaning R.Resource.state self.old) (Arriving arrival.now.moment arrival.now.peer arrival.now.datagram.now 320) }
         ensures next { view R.Resource.meaning R.Resource.state self.new ≡ next R.Resource.meaning coap (view R.Resource.meaning R.Resource.state self.old) (Arriving arrival.now.moment arrival.now.peer arrival.now.datagram.now 320) }
     {
         let mut buffer = [0u8; MIN_REPLY];
         let outcome = self.arrive(arrival.moment, arrival.peer, arrival.datagram, &mut buffer);
         match outcome.answer {
-            Answer::Reply(n) => Answer::Reply(reply_bytes(&buffer[0..n])),
-            Answer::Silent(why) => Answer::Silent(why),
-            Answer::Refused(why) => Answer::Refused(why),
+            Answer::Reply(n) => Served::Reply(reply_bytes(&buffer[0..n])),
+            Answer::Silent(why) => Served::Silent(why),
+            Answer::Refused(why) => Served::Refused(why),
         }
     }
 
@@ -46,8 +45,8 @@ impl<R: Resource> Server<R> {
         ensures next { view R.Resource.meaning R.Resource.state self.new ≡ next R.Resource.meaning coap (view R.Resource.meaning R.Resource.state self.old) (call_of 320 call.now) }
     {
         match call {
-            Call::Arrival(arrival) => Served::Arrival(self.receive(arrival)),
-            Call::Tally => Served::Tally(self.tally()),
+            Call::Arrival(arrival) => self.receive(arrival),
+            Call::Tally => Served::Tallied(self.tally()),
         }
     }
 

@@ -46,7 +46,6 @@ pub fn plots_session(
 #[cfg(test)]
 mod tests {
     use super::*;
-    use calls::answer::Answer;
     use calls::call::Arrival;
     use std::test::Fail;
 
@@ -68,7 +67,7 @@ mod tests {
         let calls = reads_a_plot(&datagram);
         let answers = office_session(&mut plots, &mut files, &calls, rt.alloc())?;
         match answers.as_slice() {
-            [Served::Arrival(Answer::Reply(reply)), Served::Tally(counts)] => {
+            [Served::Reply(reply), Served::Tallied(counts)] => {
                 assert_eq!(rt; reply.as_slice(), [0x61, 0x45, 0x12, 0x34, 0xA1].as_slice());
                 assert_eq!(rt; counts.done, 0);
                 Ok(())
@@ -85,7 +84,7 @@ mod tests {
         let calls = reads_a_plot(&datagram);
         let answers = plots_session(&mut plots, &mut files, &calls, rt.alloc())?;
         match answers.as_slice() {
-            [Served::Arrival(Answer::Reply(reply)), Served::Tally(counts)] => {
+            [Served::Reply(reply), Served::Tallied(counts)] => {
                 assert_eq!(rt; reply.as_slice(), [0x60, 0x45, 0x00, 0x01].as_slice());
                 assert_eq!(rt; counts.done, 0);
                 Ok(())
