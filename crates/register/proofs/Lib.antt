@@ -1,4 +1,3 @@
-pub mod Equal
 pub mod Rows
 pub mod Least
 pub mod Conds

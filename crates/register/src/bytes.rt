@@ -1,5 +1,8 @@
 // Bytes held inline, at most a given number of them.
-ghost use Rattle.std.specs.Prelude.{◌≡◌, ◌<◌, ◌≤◌, [], length, Ok, Err};
+ghost use Rattle.std.specs.Prelude.{◌≡◌, ◌<◌, ◌≤◌, [], length, Ok, Err, Decides};
+ghost use Rattle.std.specs.Str.{bytes_eq};
+ghost use Rattle.std.specs.Cmp.{partial_equiv_from_equiv};
+ghost use Rattle.std.specs.Cmp.Lexicographic.{nat_list_eq_equiv};
 ghost use Rattle.register.specs.Padded.{pad};
 
 use std::marker::Model;
@@ -20,7 +23,7 @@ impl ValueError {
 
 // At most N bytes: the first `len` of `bytes`, with zeros behind them. It is no `ArrayVec`, which is not `Copy`: rows of
 // the tables, whose memory is fixed, are copied whole.
-#[derive(Clone, Copy, PartialEq, Eq, Debug)]
+#[derive(Clone, Copy, Eq, Debug)]
 pub struct Bytes<const N: usize> {
     bytes: [u8; N],
     len: usize,
@@ -80,5 +83,19 @@ impl<const N: usize> Bytes<N> {
         ensures within { length result.now ≤ N }
     {
         &self.bytes[..self.len]
+    }
+}
+
+// By hand: a derived one would not say that it decides whether the bytes are the same, and would compare the zeros too.
+impl<const N: usize> PartialEq for Bytes<N> {
+    ghost eq = { λ x y. bytes_eq x y };
+
+    ghost laws = { partial_equiv_from_equiv nat_list_eq_equiv };
+
+    fn eq(&self, other: &Bytes<N>) -> bool
+        ensures same { result ≡ bytes_eq self.now other.now }
+        ensures decides { Decides result (self.now ≡ other.now) }
+    {
+        self.as_slice() == other.as_slice()
     }
 }
