@@ -3,6 +3,7 @@
 
 mod answer;
 mod notice;
+mod piece;
 
 pub use answer::push_answer;
 pub use notice::{Notice, push_notice};
@@ -12,6 +13,7 @@ mod tests {
     use super::*;
     use calls::answer::{Answer, Counts, Refusal, Served, Silence};
     use register::bytes::Bytes;
+    use std::io::Write;
     use std::test::Fail;
 
     #[test]
@@ -52,6 +54,24 @@ mod tests {
         assert_eq!(rt;
             out.as_slice(),
             b"pile 2\ndamaged\nno head\nend\n".as_slice()
+        );
+        Ok(())
+    }
+
+    #[test]
+    fn shows_a_notice(rt: HostRuntime) -> Result<(), Fail> {
+        let mut out = Vec::new(rt.alloc());
+        for notice in [
+            Notice::Stack(2),
+            Notice::Damaged,
+            Notice::NoHead,
+            Notice::End,
+        ] {
+            write!(out, "<{notice}>")?;
+        }
+        assert_eq!(rt;
+            out.as_slice(),
+            b"<pile 2><damaged><no head><end>".as_slice()
         );
         Ok(())
     }
