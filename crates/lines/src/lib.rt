@@ -13,7 +13,6 @@ mod tests {
     use super::*;
     use calls::answer::{Answer, Counts, Refusal, Served, Silence};
     use register::bytes::Bytes;
-    use std::io::Write;
     use std::test::Fail;
 
     #[test]
@@ -60,19 +59,14 @@ mod tests {
 
     #[test]
     fn shows_a_notice(rt: HostRuntime) -> Result<(), Fail> {
-        let mut out = Vec::new(rt.alloc());
-        for notice in [
+        let shown = format!(in rt.alloc();
+            "{}, {}, {}, {}",
             Notice::Stack(2),
             Notice::Damaged,
             Notice::NoHead,
-            Notice::End,
-        ] {
-            write!(out, "<{notice}>")?;
-        }
-        assert_eq!(rt;
-            out.as_slice(),
-            b"<pile 2><damaged><no head><end>".as_slice()
-        );
+            Notice::End
+        )?;
+        assert_eq!(rt; shown.as_str(), "pile 2, damaged, no head, end");
         Ok(())
     }
 }
