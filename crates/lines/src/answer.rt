@@ -1,32 +1,58 @@
 // The line of an answer.
-ghost use Rattle.std.specs.Prelude.{◌≡◌, ◌++◌, is_ok, if◌then◌else◌, Some};
-ghost use Rattle.calls.specs.Model.{served_as};
-ghost use Rattle.lines.specs.Lines.{answer_line, answer_text};
+ghost use Rattle.std.specs.Prelude.{◌≡◌, ◌++◌, length, take, is_ok, if◌then◌else◌, OnOk};
+ghost use Rattle.server.specs.Calls.{Reply, Tallied};
+ghost use Rattle.calls.specs.Model.{counts_of, served_as};
+ghost use Rattle.lines.specs.Lines.{answer_line};
 ghost use Rattle.lines.specs.Laws.{LinesTellAnswersApart};
 
-use calls::answer::{Answer, Served};
+use crate::piece;
+use calls::answer::{Answer, Counts, Served};
 use std::alloc::AllocError;
-use std::fmt;
-use text::{Hex, push_line};
 
-// An answer, which shows itself as the text of its line.
-#[derive(Clone, Copy)]
-struct AnswerText<'a>(&'a Served);
+// Appends the line of a reply. Where memory is wanting, what was there stays, and a part of the line may follow.
+fn push_reply(out: &mut Vec<u8>, reply: &[u8]) -> Result<(), AllocError>
+    ensures line { OnOk result (out.new.items ≡ out.old.items ++ answer_line (Reply reply.now)) }
+    ensures kept { take (length out.old.items) out.new.items ≡ out.old.items }
+{
+    out.extend_from_slice(b"reply ")?;
+    text::push_hex(out, reply)?;
+    out.extend_from_slice(b"\n")
+}
 
-impl fmt::Display for AnswerText<'_> {
-    ghost output = { λ answer. Some (answer_text (served_as answer.0.now)) };
+// Appends the line of a tally. Where memory is wanting, what was there stays, and a part of the line may follow.
+fn push_tally(out: &mut Vec<u8>, counts: &Counts) -> Result<(), AllocError>
+    ensures line { OnOk result (out.new.items ≡ out.old.items ++ answer_line (Tallied (counts_of counts.now))) }
+    ensures kept { take (length out.old.items) out.new.items ≡ out.old.items }
+{
+    out.extend_from_slice(b"tally ")?;
+    text::push_decimal(out, u64::from(counts.done))?;
+    out.extend_from_slice(b" ")?;
+    text::push_decimal(out, u64::from(counts.repeated))?;
+    out.extend_from_slice(b" ")?;
+    text::push_decimal(out, u64::from(counts.silenced))?;
+    out.extend_from_slice(b" ")?;
+    text::push_decimal(out, u64::from(counts.dropped))?;
+    out.extend_from_slice(b"\n")
+}
 
-    fn fmt<W: fmt::Write>(&self, f: &mut fmt::Formatter<W>) -> fmt::Result {
-        match self.0 {
-            Served::Arrival(Answer::Reply(reply)) => write!(f, "reply {}", Hex(reply.as_slice())),
-            Served::Arrival(Answer::Silent(why)) => write!(f, "silent {}", why.number()),
-            Served::Arrival(Answer::Refused(why)) => write!(f, "refused {}", why.number()),
-            Served::Tally(counts) => write!(
-                f,
-                "tally {} {} {} {}",
-                counts.done, counts.repeated, counts.silenced, counts.dropped
-            ),
-        }
+// Appends the line of an answer. Where memory is wanting, what was there stays, and a part of the line may follow.
+fn push_line(out: &mut Vec<u8>, answer: &Served) -> Result<(), AllocError>
+    ensures line { OnOk result (out.new.items ≡ out.old.items ++ answer_line (served_as answer.now)) }
+    ensures kept { take (length out.old.items) out.new.items ≡ out.old.items }
+{
+    match answer {
+        Served::Arrival(Answer::Reply(reply)) => push_reply(out, reply.as_slice()),
+        Served::Arrival(Answer::Silent(why)) => piece::push_numbered(
+            out,
+            b"silent ",
+            u64::from(why.number()),
+        ),
+        Served::Arrival(Answer::Refused(why)) => piece::push_numbered(
+            out,
+            b"refused ",
+            u64::from(why.number()),
+        ),
+        Served::Tally(counts) => push_tally(out, counts),
     }
 }
 
@@ -35,5 +61,7 @@ pub fn push_answer(out: &mut Vec<u8>, answer: &Served) -> Result<(), AllocError>
     ensures line { out.new.items ≡ (if is_ok result then out.old.items ++ answer_line (served_as answer.now) else out.old.items) }
     ensures apart { LinesTellAnswersApart }
 {
-    push_line(out, AnswerText(answer))
+    let before = out.len();
+    let pushed = push_line(out, answer);
+    text::whole_or_nothing(out, before, pushed)
 }

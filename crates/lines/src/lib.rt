@@ -3,6 +3,7 @@
 
 mod answer;
 mod notice;
+mod piece;
 
 pub use answer::push_answer;
 pub use notice::{Notice, push_notice};
@@ -53,6 +54,19 @@ mod tests {
             out.as_slice(),
             b"pile 2\ndamaged\nno head\nend\n".as_slice()
         );
+        Ok(())
+    }
+
+    #[test]
+    fn shows_a_notice(rt: HostRuntime) -> Result<(), Fail> {
+        let shown = format!(in rt.alloc();
+            "{}, {}, {}, {}",
+            Notice::Stack(2),
+            Notice::Damaged,
+            Notice::NoHead,
+            Notice::End
+        )?;
+        assert_eq!(rt; shown.as_str(), "pile 2, damaged, no head, end");
         Ok(())
     }
 }

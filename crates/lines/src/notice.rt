@@ -2,9 +2,9 @@
 ghost use Rattle.std.specs.Prelude.{◌≡◌, ◌++◌, is_ok, if◌then◌else◌, Some};
 ghost use Rattle.lines.specs.Lines.{notice_line, notice_text};
 
+use crate::piece;
 use std::alloc::AllocError;
 use std::fmt;
-use text::push_line;
 
 // What is said besides the answers: which stack comes, that an input is damaged, has ended or has no head. The number of a
 // stack is any `u8`: an enum of two would ask more of callers.
@@ -33,5 +33,14 @@ impl fmt::Display for Notice {
 pub fn push_notice(out: &mut Vec<u8>, notice: Notice) -> Result<(), AllocError>
     ensures { out.new.items ≡ (if is_ok result then out.old.items ++ notice_line notice else out.old.items) }
 {
-    push_line(out, notice)
+    match notice {
+        Notice::Stack(number) => {
+            let before = out.len();
+            let pushed = piece::push_numbered(out, b"pile ", u64::from(number));
+            text::whole_or_nothing(out, before, pushed)
+        }
+        Notice::Damaged => out.extend_from_slice(b"damaged\n"),
+        Notice::End => out.extend_from_slice(b"end\n"),
+        Notice::NoHead => out.extend_from_slice(b"no head\n"),
+    }
 }
