@@ -1,5 +1,5 @@
 -- What stays at the front of a text.
-use Rattle.std.proofs.Common.{◌≡◌, ℕ, List, ◌++◌, length, take, refl, sym, ap, ◌∙◌, arith}
+use Rattle.std.proofs.Common.{◌≡◌, ℕ, List, ◌++◌, length, take, refl, arith}
 use Rattle.std.proofs.lemmas.List.{take_at, take_all}
 
 pub kept_whole : (old : List ℕ) → take (length old) old ≡ old

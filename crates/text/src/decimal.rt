@@ -12,5 +12,9 @@ pub fn push_decimal(out: &mut Vec<u8>, n: u64) -> Result<(), AllocError>
     ensures succeeds { vec_len out.old + 20 ≤ vec_capacity out.old → is_ok result ≡ true }
     ensures reads_back { DecimalReadsBack }
 {
-    out.extend_from_slice(Buffer::new().format(n).as_bytes())
+    out.reserve(20)?;
+    for digit in Buffer::new().format(n).as_bytes() {
+        out.push_reserved(*digit);
+    }
+    Ok(())
 }

@@ -1,10 +1,10 @@
 // Bytes written in hexadecimal: two digits to a byte, the high one first.
-ghost use Rattle.std.specs.Prelude.{◌≡◌, ◌+◌, ◌*◌, ◌<◌, ◌≤◌, ◌/◌, ◌%◌, true, [], ◌∷◌, ◌++◌, length, is_ok, if◌then◌else◌, vec_items, vec_len, vec_capacity, MatchResult, Some};
+ghost use Rattle.std.specs.Prelude.{◌≡◌, ◌+◌, ◌*◌, ◌<◌, ◌≤◌, ◌/◌, ◌%◌, true, [], ◌∷◌, ◌++◌, length, take, is_ok, if◌then◌else◌, vec_items, vec_len, vec_capacity, MatchResult, Some, IsAscii};
 ghost use Rattle.std.specs.Option.{option_map};
 ghost use Rattle.text.specs.Hex.{blank, digit_of, hex_bytes, hex_digit, hex_text, unblanked, HexRoundTrip};
 
 use std::alloc::{AllocError, Global};
-use std::fmt;
+use std::{fmt, str};
 
 // Whether a character is a space, a tab or a carriage return.
 fn is_blank(c: u8) -> bool
@@ -39,7 +39,22 @@ fn digits(byte: u8) -> [u8; 2]
     [digit_text(byte / 16), digit_text(byte % 16)]
 }
 
-// Bytes as text: two capital digits to a byte.
+// The digits of at most 32 bytes, at the front of a room for that many.
+fn part_digits(bytes: &[u8]) -> [u8; 64]
+    requires { length bytes.now ≤ 32 }
+    ensures text { take (2 * length bytes.now) result ≡ hex_text bytes.now }
+    ensures ascii { IsAscii (hex_text bytes.now) }
+{
+    let mut text = [0; 64];
+    for (i, byte) in bytes.iter().enumerate() {
+        let [high, low] = digits(*byte);
+        text[2 * i] = high;
+        text[2 * i + 1] = low;
+    }
+    text
+}
+
+// Bytes as text: two capital digits to a byte. They are written by parts of 32 bytes.
 #[derive(Clone, Copy, Debug)]
 pub struct Hex<'a>(pub &'a [u8]);
 
@@ -47,9 +62,12 @@ impl fmt::Display for Hex<'_> {
     ghost output = { λ bytes. Some (hex_text bytes.0.now) };
 
     fn fmt<W: fmt::Write>(&self, f: &mut fmt::Formatter<W>) -> fmt::Result {
-        for byte in self.0 {
-            let [high, low] = digits(*byte);
-            write!(f, "{}{}", char::from(high), char::from(low))?;
+        for part in self.0.chunks(32) {
+            let room = part_digits(part);
+            let Ok(text) = str::from_utf8(&room[..2 * part.len()]) else {
+                unreachable!();
+            };
+            f.write_str(text)?;
         }
         Ok(())
     }

@@ -12,6 +12,7 @@ pub use line::{push_line, whole_or_nothing};
 #[cfg(test)]
 mod tests {
     use super::*;
+    use std::alloc::AllocError;
     use std::io::Write;
     use std::test::Fail;
 
@@ -54,6 +55,17 @@ mod tests {
         let mut out = Vec::from_slice(rt.alloc(), b"> ")?;
         push_line(&mut out, Hex(&[0x0a, 0xff]))?;
         assert_eq!(rt; out.as_slice(), b"> 0AFF\n".as_slice());
+        Ok(())
+    }
+
+    #[test]
+    fn takes_back_what_failed(rt: HostRuntime) -> Result<(), Fail> {
+        let mut out = Vec::from_slice(rt.alloc(), b"> 0AFF")?;
+        assert_eq!(rt; whole_or_nothing(&mut out, 2, Ok(7)), Ok(7));
+        assert_eq!(rt; out.as_slice(), b"> 0AFF".as_slice());
+        let failed: Result<u8, AllocError> = Err(AllocError);
+        assert_eq!(rt; whole_or_nothing(&mut out, 2, failed), Err(AllocError));
+        assert_eq!(rt; out.as_slice(), b"> ".as_slice());
         Ok(())
     }
 

@@ -5,12 +5,16 @@ ghost use Rattle.text.specs.Lines.{line_feed};
 use std::alloc::AllocError;
 use std::fmt::Display;
 
+// The room that a line's text has at first, enough for most lines.
+const LINE_ROOM: usize = 256;
+
 // Appends what a value shows itself as, and a line feed. Where memory is wanting, `out` stays as it was.
 pub fn push_line<L: Display + Drop>(out: &mut Vec<u8>, shown: L) -> Result<(), AllocError>
     ensures text { OnOk result (IfSome (L.output shown) (λ text. out.new.items ≡ out.old.items ++ (text ++ line_feed))) }
     ensures kept { OnErr result (out.new.items ≡ out.old.items) }
 {
-    let line = format!(in *out.allocator(); "{shown}\n")?;
+    let mut line = String::with_capacity(*out.allocator(), LINE_ROOM)?;
+    writeln!(line, "{shown}")?;
     out.extend_from_slice(line.as_bytes())
 }
 

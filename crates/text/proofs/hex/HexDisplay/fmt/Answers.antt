@@ -1,17 +1,24 @@
-use Rattle.std.proofs.Common.{◌/◌, ◌%◌, [], ◌∷◌, ◌++◌, get_or, sym, ap, ◌∙◌, append_assoc, rules}
+use Rattle.std.proofs.Common.{◌≡◌, ◌++◌, ◌∙◌, append_assoc, rules}
 use Rattle.std.proofs.Output.{has_written_append}
-use Rattle.std.proofs.lemmas.List.{at_drop_more}
-use Rattle.text.proofs.Digits.{two_bytes}
-use Rattle.text.specs.Hex.{hex_digit, hex_text}
+use Rattle.std.proofs.lemmas.Str.{IsUtf8-from_ascii}
+use Rattle.text.proofs.Digits.{text_append}
 use Rattle.text.proofs.hex.HexDisplay.fmt.Goals as goal
+use Rattle.text.specs.Hex.{hex_text}
 
-pub loop-byte-preserved : goal.loop-byte-preserved
-loop-byte-preserved g c =
-    λ plain.
-    let sofar = c.loop-byte.invariant plain in
-    let byte = get_or c.args.self.now.0.now c.loop-byte.byte-index 0 in
-    let pair = hex_digit (byte / 16) ∷ hex_digit (byte % 16) ∷ [] in (
-      sofar.0 ++ pair,
-      has_written_append _ _ _ _ _ _ sofar.1 (search (rules, two_bytes)),
-      append_assoc sofar.0 pair _ ∙ ap (λ l. sofar.0 ++ l) (sym (at_drop_more hex_text c.args.self.now.0.now c.loop-byte.byte-index 0 c.loop-byte-test.true)) ∙ sofar.2,
+pub unreachable-requires : goal.unreachable-requires
+unreachable-requires g c = c.in_default.ensures.cases.0 (rw c.part_digits-room.ensures.text (IsUtf8-from_ascii _ c.part_digits-room.ensures.ascii))
+
+pub loop-part-preserved : goal.loop-part-preserved
+loop-part-preserved g c =
+    let steps = c.in-Some.ensures.steps in
+    let shown : c.in-Ok.text.now ≡ hex_text c.in-Some.part.now = c.in-Ok.ensures.cases.0 ∙ c.part_digits-room.ensures.text in (
+      search rules,
+      tt,
+      steps.0 ∙ c.loop-part.invariant.2,
+      λ plain.
+          let so_far = c.loop-part.invariant.3 plain in (
+            so_far.0 ++ c.in-Ok.text.now,
+            has_written_append _ _ _ _ _ _ so_far.1 (search rules),
+            rw (append_assoc, shown, ← text_append) (rw steps.1.0 at so_far.2),
+          ),
     )
