@@ -6,7 +6,7 @@ ghost use Rattle.lines.specs.Lines.{answer_line};
 ghost use Rattle.lines.specs.Laws.{LinesTellAnswersApart};
 
 use crate::piece;
-use calls::answer::{Answer, Counts, Served};
+use calls::answer::{Counts, Served};
 use std::alloc::AllocError;
 
 // Appends the line of a reply. Where memory is wanting, what was there stays, and a part of the line may follow.
@@ -41,18 +41,10 @@ fn push_line(out: &mut Vec<u8>, answer: &Served) -> Result<(), AllocError>
     ensures kept { take (length out.old.items) out.new.items ≡ out.old.items }
 {
     match answer {
-        Served::Arrival(Answer::Reply(reply)) => push_reply(out, reply.as_slice()),
-        Served::Arrival(Answer::Silent(why)) => piece::push_numbered(
-            out,
-            b"silent ",
-            u64::from(why.number()),
-        ),
-        Served::Arrival(Answer::Refused(why)) => piece::push_numbered(
-            out,
-            b"refused ",
-            u64::from(why.number()),
-        ),
-        Served::Tally(counts) => push_tally(out, counts),
+        Served::Reply(reply) => push_reply(out, reply.as_slice()),
+        Served::Silent(why) => piece::push_numbered(out, b"silent ", u64::from(why.number())),
+        Served::Refused(why) => piece::push_numbered(out, b"refused ", u64::from(why.number())),
+        Served::Tallied(counts) => push_tally(out, counts),
     }
 }
 

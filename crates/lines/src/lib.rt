@@ -11,7 +11,7 @@ pub use notice::{Notice, push_notice};
 #[cfg(test)]
 mod tests {
     use super::*;
-    use calls::answer::{Answer, Counts, Refusal, Served, Silence};
+    use calls::answer::{Counts, Refusal, Served, Silence};
     use register::bytes::Bytes;
     use std::test::Fail;
 
@@ -25,13 +25,10 @@ mod tests {
             dropped: 4_294_967_295,
         };
         let mut out = Vec::new(rt.alloc());
-        push_answer(&mut out, &Served::Arrival(Answer::Reply(reply)))?;
-        push_answer(&mut out, &Served::Arrival(Answer::Silent(Silence::Copy)))?;
-        push_answer(
-            &mut out,
-            &Served::Arrival(Answer::Refused(Refusal::Datagram)),
-        )?;
-        push_answer(&mut out, &Served::Tally(counts))?;
+        push_answer(&mut out, &Served::Reply(reply))?;
+        push_answer(&mut out, &Served::Silent(Silence::Copy))?;
+        push_answer(&mut out, &Served::Refused(Refusal::Datagram))?;
+        push_answer(&mut out, &Served::Tallied(counts))?;
         assert_eq!(rt;
             out.as_slice(),
             b"reply 60450AFF\nsilent 15\nrefused 3\ntally 1 20 0 4294967295\n".as_slice()
