@@ -92,4 +92,30 @@ mod tests {
             _ => Err(Fail::new("other answers")),
         }
     }
+
+    // A host's own table on the heap.
+    fn table(heap: Global) -> Result<Vec<FileRecord>, AllocError> {
+        let mut files = Vec::new(heap);
+        files.push(FileRecord::unused())?;
+        Ok(files)
+    }
+
+    #[test]
+    fn lists_records_and_answers(rt: HostRuntime) -> Result<(), Fail> {
+        let mut plots = [PlotRecord::vacant(); 8];
+        let mut files = table(rt.alloc())?;
+        let datagram = [0x40, 0x01, 0x00, 0x01, 0xB1, 0x78];
+        let calls = reads_a_plot(&datagram);
+        let mut answers = Vec::new(rt.alloc());
+        for answer in &office_session(&mut plots, &mut files, &calls, rt.alloc())? {
+            answers.push(*answer)?;
+        }
+        match answers.as_slice() {
+            [Served::Reply(reply), Served::Tallied(_)] => {
+                assert_eq!(rt; reply.as_slice(), [0x60, 0x84, 0x00, 0x01].as_slice());
+                Ok(())
+            }
+            _ => Err(Fail::new("other answers")),
+        }
+    }
 }
