@@ -1,4 +1,4 @@
-use Rattle.std.proofs.Common.{ℕ, List, get_or, ap, arith, rules}
+use Rattle.std.proofs.Common.{arith, rules}
 use Rattle.std.proofs.lemmas.List.{length-set}
 use Rattle.text.proofs.Digits.{ascii_text, pair_written}
 use Rattle.text.proofs.hex.part_digits.Goals as goal
@@ -6,8 +6,7 @@ use Rattle.text.proofs.hex.part_digits.Goals as goal
 pub loop-i-preserved : goal.loop-i-preserved
 loop-i-preserved c = (
   search (rules, length-set),
-  pair_written c.args.bytes.now c.loop-i.text c.loop-i.i _ _ c.loop-i-test.true (omega arith)
-      (ap (λ (l : List ℕ). get_or l 0 0) c.digits.ensures) (ap (λ (l : List ℕ). get_or l 1 0) c.digits.ensures) c.loop-i.invariant.1,
+  pair_written c.args.bytes.now c.loop-i.text c.loop-i.i _ _ c.loop-i-test.true (omega arith) (search rules) (search rules) c.loop-i.invariant.1,
 )
 
 pub returns-clause-ascii : goal.returns-clause-ascii
