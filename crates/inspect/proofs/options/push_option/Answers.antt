@@ -1,0 +1,5 @@
+use Rattle.std.proofs.Common.{append_assoc, rules}
+use Rattle.inspect.proofs.options.push_option.Goals as goal
+
+pub returns-clause-text : goal.returns-clause-text
+returns-clause-text c = search (rules, append_assoc)
