@@ -1,24 +1,16 @@
 use Rattle.std.proofs.Common.{◌≡◌, ◌++◌, length, vec_items, codes, sym, refl, ap, ◌∙◌, append_assoc, append-nil, arith, rules}
 use Rattle.std.proofs.lemmas.Grind.{common_steps}
-use Rattle.std.proofs.lemmas.Result.{err_from_is_err_and}
 use Rattle.message.specs.Reading.{read_option}
 use Rattle.message.proofs.Walks.{Drew}
 use Rattle.inspect.specs.Options.{option_text, further_text}
-use Rattle.inspect.specs.Written.{behind}
 use Rattle.text.proofs.Keeping.{kept_before}
 use Rattle.inspect.proofs.Fronts.{front_through}
-use Rattle.inspect.proofs.Listing.{behind_refused, drawn, text_drawn, text_ended, text_fault}
+use Rattle.inspect.proofs.Listing.{drawn, text_drawn, text_ended}
 use Rattle.inspect.proofs.options.push_further.Goals as goal
 
 -- What `next` found.
 option : (c : goal.In_ok-push_option) → Drew c.loop-option.reader c.next.new.self (read_option c.in-Some.option)
 option c = drawn further_text c.loop-option.reader c.next.new.self c.next.ensures.after c.in_ok-option.ensures.answer c.in-Some.option c.in-Some.is
-
-pub returns-in_err-option-clause-written : goal.returns-in_err-option-clause-written
-returns-in_err-option-clause-written c =
-    let p = err_from_is_err_and c.from_residual.result c.from_residual.ensures.1 in
-    let e = text_fault further_text c.loop-option.reader c.next.new.self c.next.ensures.after _ c.in_err-option.ensures.answer in
-    rw (p.1, p.2) (behind_refused (vec_items c.args.out.now) _ _ (sym c.loop-option.invariant.1 ∙ ap (behind (vec_items c.loop-option.out)) e))
 
 pub returns-in_err-push_option-clause-front : goal.returns-in_err-push_option-clause-front
 returns-in_err-push_option-clause-front c =
