@@ -1,8 +1,6 @@
 -- The text of options that a reader gives one by one.
 use Rattle.std.proofs.Common.{◌≡◌, ℕ, List, [], ◌∷◌, ◌++◌, Some, None, Ok, Err, Option, Result, sym, refl, ap, ◌∙◌, append_assoc}
-use Rattle.message.specs.declared.fault.MessageFault.{MessageFault}
 use Rattle.message.specs.declared.fault.Rejection.{Rejection}
-use Rattle.message.specs.declared.fault.Rejection.TheVariants.{Fault}
 use Rattle.message.specs.declared.option.MessageOption.{MessageOption}
 use Rattle.message.specs.declared.reader.Reader.{Reader}
 use Rattle.message.specs.Options.{ReadOption, OptionList, broken, ended, more}
@@ -20,9 +18,6 @@ text_more shown before t o (ended os end) is = ap (λ (l : List ℕ). Ok l) (app
 
 -- What a call of `next` says of the text of the options that are left: the reader r became q.
 module _ (shown : List ReadOption → List ℕ) (r q : Reader) (moved : Moved (step_of r) r q) where
-  pub text_fault : (why : MessageFault) → Err why ≡ next_answer (step_of r) → text_in shown (options_of r) ≡ Err (Fault why)
-  text_fault why e = let f = turn r q (Err why) e moved in ap (text_in shown) f.1 ∙ ap (λ w. Err (Fault w)) (sym f.2)
-
   module _ {found : Option MessageOption} (answer : read_answer (Ok found) ≡ next_answer (step_of r)) where
     pub drawn : (o : MessageOption) → found ≡ Some o → Drew r q (read_option o)
     drawn o is = turn r q (read_answer (Ok (Some o))) (ap (λ a. read_answer (Ok a)) (sym is) ∙ answer) moved
