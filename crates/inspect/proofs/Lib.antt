@@ -1,5 +1,6 @@
 pub mod Composed
 pub mod Feeding
+pub mod Fronts
 pub mod Listing
 pub mod Pieces
 pub mod Reports

@@ -41,10 +41,6 @@ how_many kind (line ∷ lines) = same_kind kind (line_kind line) + how_many kind
 abbrev pub tally_of : List (List ℕ) → Tally
 tally_of lines = record { messages = at_most (how_many Message lines); faults = at_most (how_many Fault lines); others = at_most (how_many Other lines) }
 
--- The counts as text.
-abbrev pub tally_text : Tally → List ℕ
-tally_text t = codes "messages " ++ decimal t.messages ++ codes " faults " ++ decimal t.faults ++ codes " others " ++ decimal t.others
-
 -- The last line of the output.
 abbrev pub totals : Tally → List ℕ
-totals t = tally_text t ++ line_feed
+totals t = codes "messages " ++ decimal t.messages ++ codes " faults " ++ decimal t.faults ++ codes " others " ++ decimal t.others ++ line_feed

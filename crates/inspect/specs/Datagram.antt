@@ -30,15 +30,11 @@ opened_text d (opens h at) = filled_text d h (options_from d at 0)
 abbrev pub message_text : List ℕ → Result (List ℕ) Rejection
 message_text d = opened_text d (opening d)
 
--- Why a datagram is not a message, as text.
-abbrev pub rejection_line : Rejection → List ℕ
-rejection_line TooLong = codes "refused 3"
-rejection_line NotCoap = codes "silent 10"
-rejection_line (Fault f) = codes "fault " ++ decimal (cause_of f) ++ codes " " ++ decimal (place_of f)
-
 -- The line of a datagram that is not a message, and what the datagram is.
 abbrev pub rejection_text : Rejection → List ℕ
-rejection_text why = rejection_line why ++ line_feed
+rejection_text TooLong = codes "refused 3" ++ line_feed
+rejection_text NotCoap = codes "silent 10" ++ line_feed
+rejection_text (Fault f) = codes "fault " ++ decimal (cause_of f) ++ codes " " ++ decimal (place_of f) ++ line_feed
 
 abbrev pub rejection_kind : Rejection → LineKind
 rejection_kind TooLong = Other

@@ -1,7 +1,7 @@
 pub mod Fields
 pub mod Options
+pub mod Written
 pub mod Datagram
-pub mod Shown
 pub mod Line
 pub mod Lines
 pub mod Counts

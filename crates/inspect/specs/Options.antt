@@ -1,6 +1,9 @@
 -- The options of a message as text.
-use Rattle.std.specs.Prelude.{ℕ, List, [], ◌∷◌, ◌++◌, None, Some, codes, decimal, Option}
+use Rattle.std.specs.Prelude.{ℕ, List, [], ◌∷◌, ◌++◌, Ok, Err, codes, decimal, Result}
 use Rattle.text.specs.Hex.{hex_text}
+use Rattle.message.specs.declared.fault.MessageFault.TheVariants.{InOption}
+use Rattle.message.specs.declared.fault.Rejection.{Rejection}
+use Rattle.message.specs.declared.fault.Rejection.TheVariants.{Fault}
 use Rattle.message.specs.Options.{ReadOption, OptionList, broken, ended}
 use Rattle.message.specs.Texts.{kind_text}
 
@@ -18,7 +21,7 @@ abbrev pub options_text : List ReadOption → List ℕ
 options_text [] = codes "-"
 options_text (o ∷ os) = option_text o ++ further_text os
 
--- The text of options that are read from a datagram, where none of them has a fault.
-abbrev pub shown_in : (List ReadOption → List ℕ) → OptionList → Option (List ℕ)
-shown_in shown (broken f) = None
-shown_in shown (ended options end) = Some (shown options)
+-- The text of options that are read from a datagram, or why there is none.
+abbrev pub text_in : (List ReadOption → List ℕ) → OptionList → Result (List ℕ) Rejection
+text_in shown (broken f) = Err (Fault (InOption f))
+text_in shown (ended options end) = Ok (shown options)

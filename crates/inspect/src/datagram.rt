@@ -1,20 +1,18 @@
 // The line that answers a datagram.
-ghost use Rattle.std.specs.Prelude.{◌≡◌, ◌++◌, Ok, Err, Some, IfOk, OnOk, OnErr, MatchResult, IsSomeAnd};
+ghost use Rattle.std.specs.Prelude.{◌≡◌, ◌++◌, Err, IfOk, OnOk, OnErr};
 ghost use Rattle.message.specs.Message.{parse};
-ghost use Rattle.text.specs.Lines.{line_feed};
-ghost use Rattle.inspect.specs.Datagram.{datagram_kind, datagram_text, is_message, message_text, rejection_kind, rejection_line};
-ghost use Rattle.inspect.specs.Shown.{message_shown};
+ghost use Rattle.inspect.specs.declared.error.LineError.TheVariants.{Rejected};
+ghost use Rattle.inspect.specs.Written.{StaysInFront, Written};
+ghost use Rattle.inspect.specs.Datagram.{datagram_kind, datagram_text, is_message, message_text, rejection_kind, rejection_text};
 ghost use Rattle.inspect.specs.Laws.{ToldByParse};
 
-use crate::fields::Bytes;
-use crate::options::Options;
+use crate::error::LineError;
+use crate::{fields, options};
 use message::MAX_DATAGRAM;
 use message::fault::Rejection;
-use message::header::Header;
 use message::reader::Reader;
 use std::alloc::AllocError;
-use std::fmt;
-use text::push_line;
+use text::whole_or_nothing;
 use transcribe::transcribe;
 
 // What a line of input is: a message, a datagram with a format fault, or anything else.
@@ -47,60 +45,46 @@ fn same_again(datagram: &[u8]) -> bool
     }
 }
 
-// The fields of a message; the reader has still to give all the options.
-#[derive(Clone, Copy)]
-struct Message<'a> {
-    header: Header<'a>,
-    options: Reader<'a>,
-    payload: &'a [u8],
-}
-
-impl<'a> Message<'a> {
-    // The fields of a datagram that is a message.
-    fn read(datagram: &'a [u8]) -> Result<Message<'a>, Rejection>
-        ensures { MatchResult result (λ m. IsSomeAnd (message_shown m) (λ text. message_text datagram.now ≡ Ok (text ++ line_feed))) (λ why. message_text datagram.now ≡ Err why) }
-    {
-        let (header, options) = Reader::open(datagram)?;
-        let payload = options.payload()?;
-        Ok(Message {
-            header,
-            options,
-            payload,
-        })
+// Appends the line of a message. Where the datagram is not a message, `out` stays as it was. Where memory is wanting,
+// what was there stays, and a part of the line may follow.
+fn push_message(out: &mut Vec<u8>, datagram: &[u8]) -> Result<(), LineError>
+    ensures written { Written (message_text datagram.now) out.old.items out.new.items result }
+    ensures kept { (why : Rejection) → result ≡ Err (Rejected why) → out.new.items ≡ out.old.items }
+    ensures front { StaysInFront out.old.items out.new.items }
+{
+    let (header, reader) = Reader::open(datagram)?;
+    let payload = reader.payload()?;
+    if !same_again(datagram) {
+        out.extend_from_slice(b"differs\n")?;
+        return Ok(());
     }
+    fields::push_header(out, &header)?;
+    options::push_options(out, reader)?;
+    out.push(b' ')?;
+    fields::push_bytes(out, payload)?;
+    out.push(b'\n')?;
+    Ok(())
 }
 
-impl fmt::Display for Message<'_> {
-    ghost output = { λ m. message_shown m };
-
-    fn fmt<W: fmt::Write>(&self, f: &mut fmt::Formatter<W>) -> fmt::Result {
-        write!(
-            f,
-            "message {} {} {} {} {} {}",
-            self.header.kind,
-            self.header.code,
-            self.header.id,
-            Bytes(self.header.token),
-            Options(self.options),
-            Bytes(self.payload)
-        )
-    }
-}
-
-// Why a datagram is not a message, as a line.
-#[derive(Clone, Copy)]
-struct RejectionLine(Rejection);
-
-impl fmt::Display for RejectionLine {
-    ghost output = { λ line. Some (rejection_line line.0) };
-
-    fn fmt<W: fmt::Write>(&self, f: &mut fmt::Formatter<W>) -> fmt::Result {
-        match self.0 {
-            Rejection::TooLong => write!(f, "refused 3"),
-            Rejection::NotCoap => write!(f, "silent 10"),
-            Rejection::Fault(fault) => write!(f, "fault {} {}", fault.cause(), fault.place()),
+// Appends the line of a datagram that is not a message, and says what the datagram is. Where memory is wanting, what
+// was there stays, and a part of the line may follow.
+fn push_rejection(out: &mut Vec<u8>, why: Rejection) -> Result<LineKind, AllocError>
+    ensures kind { IfOk result (λ kind. kind ≡ rejection_kind why) }
+    ensures text { OnOk result (out.new.items ≡ out.old.items ++ rejection_text why) }
+    ensures front { StaysInFront out.old.items out.new.items }
+{
+    match why {
+        Rejection::TooLong => out.extend_from_slice(b"refused 3\n")?,
+        Rejection::NotCoap => out.extend_from_slice(b"silent 10\n")?,
+        Rejection::Fault(fault) => {
+            out.extend_from_slice(b"fault ")?;
+            text::push_decimal(out, u64::from(fault.cause()))?;
+            out.push(b' ')?;
+            text::push_decimal(out, fault.place() as u64)?;
+            out.push(b'\n')?;
         }
     }
+    Ok(LineKind::from(why))
 }
 
 // Appends the line of a datagram, and says what the datagram is. Where memory is wanting, `out` stays as it was.
@@ -110,18 +94,11 @@ pub fn push_datagram(out: &mut Vec<u8>, datagram: &[u8]) -> Result<LineKind, All
     ensures kept { OnErr result (out.new.items ≡ out.old.items) }
     ensures parsed { ToldByParse }
 {
-    match Message::read(datagram) {
-        Ok(message) if same_again(datagram) => {
-            push_line(out, message)?;
-            Ok(LineKind::Message)
-        }
-        Ok(_) => {
-            push_line(out, "differs")?;
-            Ok(LineKind::Message)
-        }
-        Err(why) => {
-            push_line(out, RejectionLine(why))?;
-            Ok(LineKind::from(why))
-        }
-    }
+    let before = out.len();
+    let pushed = match push_message(out, datagram) {
+        Ok(()) => Ok(LineKind::Message),
+        Err(LineError::Rejected(why)) => push_rejection(out, why),
+        Err(LineError::NoMemory) => Err(AllocError),
+    };
+    whole_or_nothing(out, before, pushed)
 }

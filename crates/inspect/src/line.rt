@@ -5,7 +5,6 @@ ghost use Rattle.inspect.specs.Line.{line_kind, line_text};
 use crate::datagram;
 use crate::datagram::LineKind;
 use std::alloc::{AllocError, Global};
-use text::push_line;
 
 // Appends the answer to a line of input, and says what the line is. Where memory is wanting, `out` stays as it was.
 pub fn push_answer(heap: Global, line: &[u8], out: &mut Vec<u8>) -> Result<LineKind, AllocError>
@@ -16,7 +15,7 @@ pub fn push_answer(heap: Global, line: &[u8], out: &mut Vec<u8>) -> Result<LineK
     match text::read_hex(heap, line)? {
         Some(bytes) => datagram::push_datagram(out, bytes.as_slice()),
         None => {
-            push_line(out, "not hex")?;
+            out.extend_from_slice(b"not hex\n")?;
             Ok(LineKind::Other)
         }
     }

@@ -3,6 +3,7 @@
 #![tactic(auto)]
 
 mod datagram;
+mod error;
 mod fields;
 mod line;
 mod options;

@@ -1,15 +1,13 @@
 // An input that comes in pieces.
-ghost use Rattle.std.specs.Prelude.{◌≡◌, ◌++◌, OnOk, Some};
+ghost use Rattle.std.specs.Prelude.{◌≡◌, ◌++◌, OnOk};
 ghost use Rattle.inspect.specs.Line.{line_text};
-ghost use Rattle.inspect.specs.Counts.{counted, tally_text};
+ghost use Rattle.inspect.specs.Counts.{counted, totals};
 ghost use Rattle.inspect.specs.Stream.{answers, closing, fed, fresh, line_ended, state_of};
 ghost use Rattle.inspect.specs.Laws.{FedInParts, SplitAtLineFeeds, WholeReport};
 
 use crate::datagram::LineKind;
 use crate::line;
 use std::alloc::{AllocError, Global};
-use std::fmt;
-use text::push_line;
 
 // The byte that ends a line.
 const LINE_FEED: u8 = b'\n';
@@ -33,17 +31,18 @@ impl Tally {
             LineKind::Other => self.others = self.others.saturating_add(1),
         }
     }
-}
 
-impl fmt::Display for Tally {
-    ghost output = { λ tally. Some (tally_text tally) };
-
-    fn fmt<W: fmt::Write>(&self, f: &mut fmt::Formatter<W>) -> fmt::Result {
-        write!(
-            f,
-            "messages {} faults {} others {}",
-            self.messages, self.faults, self.others
-        )
+    // Appends the counts, which are the last line of the output.
+    fn push_totals(&self, out: &mut Vec<u8>) -> Result<(), AllocError>
+        ensures { OnOk result (out.new.items ≡ out.old.items ++ totals self.now) }
+    {
+        out.extend_from_slice(b"messages ")?;
+        text::push_decimal(out, self.messages)?;
+        out.extend_from_slice(b" faults ")?;
+        text::push_decimal(out, self.faults)?;
+        out.extend_from_slice(b" others ")?;
+        text::push_decimal(out, self.others)?;
+        out.extend_from_slice(b"\n")
     }
 }
 
@@ -101,6 +100,6 @@ impl Stream {
         if !self.line.is_empty() {
             self.end_line(heap, out)?;
         }
-        push_line(out, self.tally)
+        self.tally.push_totals(out)
     }
 }

@@ -29,4 +29,4 @@ closed c =
     ]
 
 pub returns : goal.returns
-returns c = record { text = IfOk-weaker c.push_line.result _ _ (λ done e. e ∙ closed c) c.push_line.ensures.text; whole = whole_report }
+returns c = record { text = IfOk-weaker c.push_totals.result _ _ (λ done e. e ∙ closed c) c.push_totals.ensures; whole = whole_report }
