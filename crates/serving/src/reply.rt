@@ -57,11 +57,7 @@ fn fail(exchange: &Exchange<'_>, code: ChangeCode, buffer: &mut ReplyBuffer) -> 
 }
 
 // The answer to a datagram that is not carried to the register.
-pub(crate) fn settle_report(
-    datagram: &[u8],
-    report: &Report,
-    buffer: &mut ReplyBuffer,
-) -> Answer
+pub(crate) fn settle_report(datagram: &[u8], report: &Report, buffer: &mut ReplyBuffer) -> Answer
     ensures answer { Gives (answer_to (exchangeFor datagram.now) report.now) result }
     ensures buffer { buffer.new ≡ buffer_with (answer_to (exchangeFor datagram.now) report.now) buffer.old }
 {
